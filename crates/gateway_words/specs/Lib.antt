@@ -1,0 +1,4 @@
+pub mod Ascii
+pub mod Places
+pub mod Reading
+pub mod Causes
