@@ -1,0 +1,15 @@
+pub mod NumberLemmas
+pub mod BindLemmas
+pub mod HeadLemmas
+pub mod PlaceLemmas
+pub mod PassingLemmas
+pub mod UniqueLemmas
+pub mod CursorLemmas
+pub mod JudgingLemmas
+pub mod LeafLemmas
+pub mod MapLemmas
+pub mod KeyLemmas
+pub mod BytesLemmas
+pub mod RuleLemmas
+pub mod ReaderLemmas
+pub mod EntryLemmas

@@ -1,0 +1,13 @@
+use Rattle.std.proofs.Common.{sym, ap, ◌∙◌}
+use Rattle.std.proofs.lemmas.Result.{err_from_is_err_and}
+use Rattle.mp_codec.specs.Maps.{bytes_behind, str_from}
+use Rattle.mp_codec.proofs.ReaderLemmas.{str_found, str_fault}
+use Rattle.mp_codec.proofs.cursor.Cursor.str_or_skip.Goals as goal
+
+pub returns-in_err-bytes-clause-fault : goal.returns-in_err-bytes-clause-fault
+returns-in_err-bytes-clause-fault c =
+    let p = err_from_is_err_and c.from_residual.result c.from_residual.ensures.1 in
+    rw (p.1, p.2) (str_fault c.args.self.now _ (ap str_from (sym c.copy-ahead.ensures.same) ∙ c.in_err-bytes.ensures))
+
+pub returns-clause-found : goal.returns-clause-found
+returns-clause-found c = str_found c.args.self.now c.str_or_skip_ahead.new.cursor (bytes_behind c.in_ok-bytes.bytes) (ap str_from (sym c.copy-ahead.ensures.same) ∙ c.in_ok-bytes.ensures)

@@ -1,0 +1,9 @@
+pub mod Format
+pub mod Value
+pub mod Spelling
+pub mod Fault
+pub mod Reading
+pub mod Maps
+pub mod Keys
+pub use Rattle.gateway_words.specs.Places
+pub use Rattle.gateway_words.specs.Reading as Readings

@@ -1,0 +1,208 @@
+//! A cursor over bytes: heads, payloads, and whole values that are skipped.
+
+ghost use Rattle.std.specs.Prelude.{◌≡◌, ◌+◌, ◌<◌, ◌^◌, ◌==◌, ◌≤◌, length, Ok, IsOk, IfOk, IfErr, OnOk, OnErr, IsErrOf};
+ghost use Rattle.gateway_words.specs.Places.{Position, Between, start_of};
+ghost use Rattle.mp_codec.specs.declared.head.Head.{Head};
+ghost use Rattle.mp_codec.specs.declared.fault.FormatFault.{FormatFault};
+ghost use Rattle.mp_codec.specs.Value.{Value};
+ghost use Rattle.mp_codec.specs.Spelling.{HeadLies, Lies, Breaks, short};
+ghost use Rattle.mp_codec.specs.Reading.{Steps, Passes, NodePasses, head_fault, head_from, bytes_from, node_from, values_from};
+
+use crate::fault::{FaultKind, FormatFault};
+use crate::head::{Head, head_in};
+use std::marker::Model;
+
+/// A place in some bytes. Contracts see the place and the bytes from there on.
+#[derive(Drop)]
+pub struct Cursor<'a> {
+    rest: &'a [u8],
+    at: usize,
+}
+
+impl<'a> Model for Cursor<'a> {
+    ghost use Rattle.std.specs.Prelude.{◌<◌, ◌+◌, ◌^◌, length};
+    ghost use Rattle.gateway_words.specs.Places.{Position};
+
+    ghost Value = { Position };
+
+    ghost view = { λ cursor. record { at = cursor.at; left = cursor.rest.now } };
+
+    ghost invariant = { λ cursor. cursor.at + length cursor.rest.now < 2 ^ 64 };
+}
+
+impl<'a> Cursor<'a> {
+    /// A cursor at the first of some bytes.
+    pub fn new(bytes: &'a [u8]) -> Cursor<'a>
+        ensures { result ≡ start_of bytes.now }
+    {
+        Cursor { rest: bytes, at: 0 }
+    }
+
+    /// A second cursor at the same place.
+    pub fn copy(&self) -> Cursor<'a>
+        ensures same { result ≡ self.now }
+        ensures small { self.now.at + length self.now.left < 2 ^ 64 }
+    {
+        Cursor {
+            rest: self.rest,
+            at: self.at,
+        }
+    }
+
+    /// The place, in bytes from 0.
+    pub fn at(&self) -> usize
+        ensures { result ≡ self.now.at }
+    {
+        self.at
+    }
+
+    /// Whether no bytes are left.
+    pub fn is_end(&self) -> bool
+        ensures { result ≡ (length self.now.left == 0) }
+    {
+        self.rest.is_empty()
+    }
+
+    /// The head of the next value: its family with its number, its length or the number of its parts.
+    /// A float's bytes are passed over; the payload of a str, bin or ext is left to `take`.
+    ///
+    /// `Short` where the bytes end within the head, at the place where they end.
+    /// `Reserved` where the first byte is c1, at its place. After a fault the cursor has not moved.
+    /// (MessagePack specification, "Formats".)
+    pub fn head(&mut self) -> Result<Head, FormatFault>
+        // What is taken spells the head.
+        ensures found { IfOk result (λ head. HeadLies head self.old self.new) }
+        // Where a head stands it is taken.
+        ensures only { (h : Head) (there : Position) → HeadLies h self.old there → (result ≡ Ok h) × (self.new ≡ there) }
+        // A fault is where every value that begins here breaks off.
+        ensures fault { IfErr result (λ f. Breaks 1 self.old f) }
+        ensures unchanged { OnErr result (self.new ≡ self.old) }
+
+        ensures exact { Steps (λ head. head) self.old self.new result (head_from self.old) }
+    {
+        self.next_head()
+    }
+
+    /// The next bytes, as many as are asked for: the payload of a str, bin or ext whose head was taken.
+    ///
+    /// `Short` where fewer are left, at the place where they end. After a fault the cursor has not moved.
+    pub fn take(&mut self, len: u32) -> Result<&'a [u8], FormatFault>
+        ensures found { IfOk result (λ taken. (length taken.now ≡ len) × Between taken.now self.old self.new) }
+        ensures fault { IfErr result (λ f. (length self.old.left < len) × (f ≡ short self.old)) }
+        ensures unchanged { OnErr result (self.new ≡ self.old) }
+
+        ensures exact { Steps (λ taken. taken.now) self.old self.new result (bytes_from len self.old) }
+    {
+        self.next_bytes(len as usize)
+    }
+
+    /// Passes over one whole value of any depth, whatever it is.
+    ///
+    /// `Short` where the bytes end within it, at the place where they end. `Reserved` where c1 stands in its place
+    /// or in that of a value in it, at that byte. After a fault the cursor has not moved.
+    pub fn skip(&mut self) -> Result<(), FormatFault>
+        // What is taken spells one value.
+        ensures found { OnOk result ((v : Value) × Lies v self.old self.new) }
+        // Where a value stands it is taken.
+        ensures only { (v : Value) (there : Position) → Lies v self.old there → IsOk result × (self.new ≡ there) }
+        // A fault is the place where the value breaks off.
+        ensures fault { IfErr result (λ f. Breaks 1 self.old f) }
+        // Where it breaks off, that is the fault.
+        ensures broken { (f : FormatFault) → Breaks 1 self.old f → IsErrOf result f }
+        ensures unchanged { OnErr result (self.new ≡ self.old) }
+
+        ensures exact { Passes self.old self.new result (values_from 1 self.old) }
+    {
+        match self.behind_value() {
+            Ok(behind) => {
+                *self = behind;
+                Ok(())
+            }
+            Err(fault) => Err(fault),
+        }
+    }
+
+    // The cursor behind the next value, found by counting the values that are still owed.
+    fn behind_value(&self) -> Result<Cursor<'a>, FormatFault>
+        ensures { result ≡ values_from 1 self.now }
+    {
+        let mut ahead = self.copy();
+        let mut owed: u128 = 1;
+        while owed > 0 {
+            match ahead.next_node() {
+                Ok(parts) => owed = owed - 1 + u128::from(parts),
+                Err(fault) => return Err(fault),
+            }
+        }
+        Ok(ahead)
+    }
+
+    // Passes over the head and the payload of the next value, and says how many values are in it.
+    #[tactic(auto, unfolding(crate::specs::Reading::node_from))]
+    fn next_node(&mut self) -> Result<u64, FormatFault>
+        ensures exact { NodePasses result self.new (node_from self.old) }
+        ensures small { IfOk result (λ parts. parts < 2 ^ 33) }
+    {
+        let head = self.next_head()?;
+        let _payload = self.next_bytes(head.payload_len() as usize)?;
+        Ok(head.part_count())
+    }
+
+    // The head of the next value.
+    #[tactic(auto, unfolding(crate::specs::Reading::head_from))]
+    fn next_head(&mut self) -> Result<Head, FormatFault>
+        ensures { Steps (λ head. head) self.old self.new result (head_from self.old) }
+    {
+        match head_in(self.rest) {
+            Ok((head, len)) => {
+                self.rest = &self.rest[len..];
+                self.at += len;
+                Ok(head)
+            }
+            Err(kind) => Err(self.head_fault(kind)),
+        }
+    }
+
+    // So many bytes.
+    #[tactic(auto, unfolding(crate::specs::Reading::bytes_from))]
+    fn next_bytes(&mut self, len: usize) -> Result<&'a [u8], FormatFault>
+        ensures { Steps (λ taken. taken.now) self.old self.new result (bytes_from len self.old) }
+    {
+        if self.rest.len() < len {
+            return Err(self.short());
+        }
+        let (taken, rest) = self.rest.split_at(len);
+        self.rest = rest;
+        self.at += len;
+        Ok(taken)
+    }
+
+    // The fault of a head that begins here.
+    fn head_fault(&self, kind: FaultKind) -> FormatFault
+        ensures { result ≡ head_fault kind self.now }
+    {
+        match kind {
+            FaultKind::Short => self.short(),
+            FaultKind::Reserved
+            | FaultKind::NotText
+            | FaultKind::Wrong
+            | FaultKind::Missing
+            | FaultKind::Repeated
+            | FaultKind::Trailing
+            | FaultKind::Version => FormatFault {
+                at: self.at as u64,
+                kind,
+            },
+        }
+    }
+
+    // The fault that the bytes end too early.
+    fn short(&self) -> FormatFault
+        ensures { result ≡ short self.now }
+    {
+        FormatFault {
+            at: (self.at + self.rest.len()) as u64,
+            kind: FaultKind::Short,
+        }
+    }
+}

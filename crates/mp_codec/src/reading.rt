@@ -1,0 +1,170 @@
+//! Readers of one value by its kind, for the maps of records, shards and indexes.
+
+ghost use Rattle.std.specs.Prelude.{◌≡◌, true, false, Some, IfOk, IfErr, OnErr, MatchOption};
+ghost use Rattle.std.specs.Str.{is_utf8};
+ghost use Rattle.gateway_words.specs.Places.{Position};
+ghost use Rattle.mp_codec.specs.declared.head.Head.{Head};
+ghost use Rattle.mp_codec.specs.declared.fault.FormatFault.{FormatFault};
+ghost use Rattle.mp_codec.specs.declared.fault.FaultKind.{FaultKind};
+ghost use Rattle.mp_codec.specs.Value.{number_of, str_of};
+ghost use Rattle.mp_codec.specs.Spelling.{HeadLies, Breaks};
+ghost use Rattle.mp_codec.specs.Fault.{IsFirstFault, WithBreaks, TextFault, ValueLies};
+ghost use Rattle.mp_codec.specs.Reading.{Steps, Advances};
+ghost use Rattle.mp_codec.specs.Maps.{bytes_behind, map_head_from, text_from, str_from, number_from};
+
+use crate::cursor::Cursor;
+use crate::fault::{FaultKind, FormatFault};
+use crate::head::Head;
+use std::str;
+
+// The bytes as text, where they are UTF-8.
+fn text_in(bytes: &[u8]) -> Option<&str>
+    ensures { MatchOption result (is_utf8 bytes.now ≡ false) (λ t. (is_utf8 bytes.now ≡ true) × (t.now ≡ bytes.now)) }
+{
+    match str::from_utf8(bytes) {
+        Ok(text) => Some(text),
+        Err(_) => None,
+    }
+}
+
+impl<'a> Cursor<'a> {
+    /// The number of pairs of the map that must stand here; the cursor goes behind its head.
+    ///
+    /// `Short` and `Reserved` as `head` does; `Wrong` at the head where another kind of value stands.
+    /// After a fault the cursor has not moved.
+    pub fn map_len(&mut self) -> Result<u32, FormatFault>
+        ensures found { IfOk result (λ pairs. HeadLies (Head.Map pairs) self.old self.new) }
+        ensures unchanged { OnErr result (self.new ≡ self.old) }
+
+        ensures exact { Steps (λ pairs. pairs) self.old self.new result (map_head_from self.old) }
+    {
+        let mut ahead = self.copy();
+        let pairs = map_len_ahead(&mut ahead)?;
+        *self = ahead;
+        Ok(pairs)
+    }
+
+    /// The text that must stand here; the cursor goes behind it.
+    ///
+    /// `Short` and `Reserved` where it breaks off, as `skip` does. `Wrong` at its head where it is no str,
+    /// `NotText` at its head where it isn't UTF-8. After a fault the cursor has not moved.
+    pub fn text(&mut self) -> Result<&'a str, FormatFault>
+        // What is taken is this text.
+        ensures found { IfOk result (λ text. ValueLies str_of (Some text.now) self.old self.new) }
+        // A fault is the first one of a value that must be text.
+        ensures fault { IfErr result (λ f. IsFirstFault (WithBreaks TextFault self.old) f) }
+        ensures unchanged { OnErr result (self.new ≡ self.old) }
+
+        ensures exact { Steps (λ text. text.now) self.old self.new result (text_from self.old) }
+    {
+        let mut ahead = self.copy();
+        let text = text_ahead(&mut ahead)?;
+        *self = ahead;
+        Ok(text)
+    }
+
+    /// The bytes of the str that stands here, or None of a value of another kind; the cursor goes behind the value.
+    ///
+    /// `Short` and `Reserved` where the value breaks off, as `skip` does. After a fault the cursor has not moved.
+    pub fn str_or_skip(&mut self) -> Result<Option<&'a [u8]>, FormatFault>
+        // What is taken is a value with these bytes, or one that is no str.
+        ensures found { IfOk result (λ bytes. ValueLies str_of (bytes_behind bytes) self.old self.new) }
+        // A fault is the place where the value breaks off.
+        ensures fault { IfErr result (λ f. Breaks 1 self.old f) }
+        ensures unchanged { OnErr result (self.new ≡ self.old) }
+
+        ensures exact { Steps bytes_behind self.old self.new result (str_from self.old) }
+    {
+        let mut ahead = self.copy();
+        let bytes = str_or_skip_ahead(&mut ahead)?;
+        *self = ahead;
+        Ok(bytes)
+    }
+
+    /// The whole number from 0 to 2^64 - 1 that stands here, or None of another value; the cursor goes behind the value.
+    ///
+    /// `Short` and `Reserved` where the value breaks off, as `skip` does. After a fault the cursor has not moved.
+    pub fn number_or_skip(&mut self) -> Result<Option<u64>, FormatFault>
+        // What is taken is this number, or a value that is none.
+        ensures found { IfOk result (λ number. ValueLies number_of number self.old self.new) }
+        // A fault is the place where the value breaks off.
+        ensures fault { IfErr result (λ f. Breaks 1 self.old f) }
+        ensures unchanged { OnErr result (self.new ≡ self.old) }
+
+        ensures exact { Steps (λ number. number) self.old self.new result (number_from self.old) }
+    {
+        let mut ahead = self.copy();
+        let number = number_or_skip_ahead(&mut ahead)?;
+        *self = ahead;
+        Ok(number)
+    }
+}
+
+#[tactic(auto, unfolding(crate::specs::Maps::map_head_from))]
+fn map_len_ahead(cursor: &mut Cursor<'_>) -> Result<u32, FormatFault>
+    ensures { Advances (λ pairs. pairs) cursor.new result (map_head_from cursor.old) }
+{
+    let at = cursor.at();
+    match cursor.head()? {
+        Head::Map(pairs) => Ok(pairs),
+        Head::Nil | Head::Bool(_) | Head::Int(_) | Head::Float => Err(wrong(at)),
+        Head::Str(_) | Head::Bin(_) | Head::Array(_) | Head::Ext(_) => Err(wrong(at)),
+    }
+}
+
+#[tactic(auto, unfolding(crate::specs::Maps::text_from))]
+fn text_ahead<'a>(cursor: &mut Cursor<'a>) -> Result<&'a str, FormatFault>
+    ensures { Advances (λ text. text.now) cursor.new result (text_from cursor.old) }
+{
+    let at = cursor.at();
+    let Head::Str(len) = cursor.head()? else {
+        return Err(wrong(at));
+    };
+    let bytes = cursor.take(len)?;
+    match text_in(bytes) {
+        Some(text) => Ok(text),
+        None => Err(FormatFault {
+            at: at as u64,
+            kind: FaultKind::NotText,
+        }),
+    }
+}
+
+#[tactic(auto, unfolding(crate::specs::Maps::str_from))]
+fn str_or_skip_ahead<'a>(cursor: &mut Cursor<'a>) -> Result<Option<&'a [u8]>, FormatFault>
+    ensures { Advances bytes_behind cursor.new result (str_from cursor.old) }
+{
+    let mut ahead = cursor.copy();
+    if let Head::Str(len) = ahead.head()? {
+        let bytes = ahead.take(len)?;
+        *cursor = ahead;
+        return Ok(Some(bytes));
+    }
+    cursor.skip()?;
+    Ok(None)
+}
+
+#[tactic(auto, unfolding(crate::specs::Maps::number_from))]
+fn number_or_skip_ahead(cursor: &mut Cursor<'_>) -> Result<Option<u64>, FormatFault>
+    ensures { Advances (λ number. number) cursor.new result (number_from cursor.old) }
+{
+    let mut ahead = cursor.copy();
+    if let Head::Int(number) = ahead.head()?
+        && let Ok(number) = u64::try_from(number)
+    {
+        *cursor = ahead;
+        return Ok(Some(number));
+    }
+    cursor.skip()?;
+    Ok(None)
+}
+
+// A value of another kind than the one that must stand here.
+fn wrong(at: usize) -> FormatFault
+    ensures { result ≡ record { at = at; kind = FaultKind.Wrong } }
+{
+    FormatFault {
+        at: at as u64,
+        kind: FaultKind::Wrong,
+    }
+}
