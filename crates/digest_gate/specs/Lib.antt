@@ -1,0 +1,4 @@
+pub mod Digest
+pub mod Body
+pub use Rattle.sha2.specs.Sha256
+pub use Rattle.hex.specs.Hex

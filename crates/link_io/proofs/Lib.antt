@@ -1,0 +1,3 @@
+mod PieceLemmas
+pub mod ToldLemmas
+mod ReadingLemmas
