@@ -41,12 +41,12 @@ followed : (n : ℕ) (b : Behind) (rest : List ℕ) → n ≤ length rest → he
 followed n b rest le = ap (λ (t : Bool). cond {A = Answer} t (Err Short) (Ok (head_behind b (take n rest), n + 1))) (ltb_no (length rest) n le)
 
 -- a followed form that gives a head is followed by enough bytes, and this is the head
-record Follows (n : ℕ) (b : Behind) (rest : List ℕ) (h : Head) (k : ℕ) : Type 0 where
-  room : n ≤ length rest
-  head : head_behind b (take n rest) ≡ h
-  len : k ≡ n + 1
+pub record Follows (n : ℕ) (b : Behind) (rest : List ℕ) (h : Head) (k : ℕ) : Type 0 where
+  pub room : n ≤ length rest
+  pub head : head_behind b (take n rest) ≡ h
+  pub len : k ≡ n + 1
 
-follows : (n : ℕ) (b : Behind) (rest : List ℕ) (h : Head) (k : ℕ) → head_of_form (Followed n b) rest ≡ Ok (h, k) → Follows n b rest h k
+pub follows : (n : ℕ) (b : Behind) (rest : List ℕ) (h : Head) (k : ℕ) → head_of_form (Followed n b) rest ≡ Ok (h, k) → Follows n b rest h k
 follows n b rest h k e = go (ltb (length rest) n) refl e
   where
     go : (t : Bool) → ltb (length rest) n ≡ t → cond {A = Answer} t (Err Short) (Ok (head_behind b (take n rest), n + 1)) ≡ Ok (h, k) → Follows n b rest h k

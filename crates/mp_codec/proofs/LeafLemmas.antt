@@ -268,6 +268,18 @@ text_wrong : {here : Position} {g : FormatFault} → TextFault here g → TextWr
 text_wrong (no_str e is) = by_head e is refl
 text_wrong (not_text l is bad) = by_bytes l is bad refl
 
+-- a text that stands here has no fault of a text
+pub text_clean : (v : Value) (t : List ℕ) (here there : Position) → Lies v here there → str_of v ≡ Some t → is_utf8 t ≡ true → (f : FormatFault) → TextFault here f → ⊥
+text_clean v t here there l s u f p = elim (text_wrong p) [
+  | by_head {there = mid} {h = h} e lacks w ↦
+      let nothing : ◌≡◌ {A = Option (List ℕ)} (Some t) None = sym s ∙ no_bytes v (ap str_len (head_is v here there mid h l e) ∙ lacks) in absurd (cc)
+  | by_bytes {there = next} {v = other} {payload = payload} m is bad w ↦
+      let same : SameLie v other there next = lies_same v other here there next l m in
+      let both : ◌≡◌ {A = Option (List ℕ)} (Some t) (Some payload) = sym s ∙ ap str_of same.value ∙ is in
+      let text : t ≡ payload = cc in
+      let wrong : true ≡ false = sym u ∙ ap is_utf8 text ∙ bad in absurd (cc)
+]
+
 pub text_judged : (here : Position) → JudgesOne TextFault IsText here (text_from here)
 unfolding text_from
 text_judged here = go (head_from here) refl

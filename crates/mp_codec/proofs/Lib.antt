@@ -13,3 +13,6 @@ pub mod BytesLemmas
 pub mod RuleLemmas
 pub mod ReaderLemmas
 pub mod EntryLemmas
+pub mod MappedLemmas
+pub mod OwedLemmas
+pub mod WritingLemmas

@@ -123,7 +123,7 @@ regroup : {Y : Type 0} (P : Faults) (n : ℕ) (Means Other : Y → Values → Ty
 regroup P n Means Other here (Ok y) h j = record { lie = j.lie; means = h y.0 j.lie.values j.lie.counted j.means; none = j.none }
 regroup P n Means Other here (Err f) h j = j
 
-no_place : (here there : Position) → LieAll 0 here there → there ≡ here
+pub no_place : (here there : Position) → LieAll 0 here there → there ≡ here
 no_place here there l = none_of l.values l.counted l.bytes l.spelled l.between
   where
     none_of : (vs : Values) → count vs ≡ 0 → (bytes : List ℕ) → SpellsAll vs bytes → Between bytes here there → there ≡ here
@@ -205,7 +205,7 @@ is_map (head.Array m) n e = absurd (cc)
 is_map (head.Ext m) n e = absurd (cc)
 
 -- a head without payload begins a node
-head_begins : (here mid : Position) (h : Head) → head_from here ≡ Ok (h, mid) → payload_len h ≡ 0 → Begins h [] here mid
+pub head_begins : (here mid : Position) (h : Head) → head_from here ≡ Ok (h, mid) → payload_len h ≡ 0 → Begins h [] here mid
 head_begins here mid h e bare =
     let l : HeadLies h here mid = head_lies here h mid e in
     record { front = l.bytes; head = l.spelled; payload_len = sym bare; between = subst (λ (t : List ℕ). Between t here mid) (sym (append-nil l.bytes)) l.between }

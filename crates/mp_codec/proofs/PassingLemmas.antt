@@ -208,7 +208,7 @@ lie_more v n here mid there l all = record {
 }
 
 -- the node and the parts of a value make it
-node_lies : (h : Head) (payload : List ℕ) (here mid there : Position) → Begins h payload here mid → (all : LieAll (part_count h) mid there) → Lies (value h payload all.values) here there
+pub node_lies : (h : Head) (payload : List ℕ) (here mid there : Position) → Begins h payload here mid → (all : LieAll (part_count h) mid there) → Lies (value h payload all.values) here there
 node_lies h payload here mid there g all = record {
   bytes = g.front ++ (payload ++ all.bytes);
   spelled = (g.front, all.bytes, record { head = g.head; payload_len = g.payload_len; part_count = all.counted }, all.spelled, refl);
@@ -282,7 +282,7 @@ pub values_break : (n : ℕ) (here : Position) (f : FormatFault) → values_from
 values_break n here f e = pass_breaks (suc (length here.left)) n here f (omega arith) e
 
 -- an error among the first values is one of all of them
-more_err : (fuel m n : ℕ) (here : Position) (f : FormatFault) → pass fuel m here ≡ Err f → pass fuel (m + n) here ≡ Err f
+pub more_err : (fuel m n : ℕ) (here : Position) (f : FormatFault) → pass fuel m here ≡ Err f → pass fuel (m + n) here ≡ Err f
 unfolding pass next
 more_err zero zero n here f e = absurd (cc)
 more_err (suc fuel) zero n here f e = absurd (cc)

@@ -14,7 +14,7 @@ abbrev pub big_endian : List ℕ → ℕ
 big_endian [] = 0
 big_endian (b ∷ bs) = b * 256 ^ length bs + big_endian bs
 
--- the forms from c0 to df
+-- the forms from 0xc0 to 0xdf
 abbrev pub middle_forms : List Form
 middle_forms =
     Whole head.Nil ∷ Never ∷ Whole (head.Bool false) ∷ Whole (head.Bool true)

@@ -1,5 +1,6 @@
 pub mod Format
 pub mod Value
+pub mod Writing
 pub mod Spelling
 pub mod Fault
 pub mod Reading

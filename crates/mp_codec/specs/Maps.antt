@@ -33,6 +33,7 @@ abbrev pub pairs_or_wrong : Option ℕ → Position → Position → Read ℕ
 pairs_or_wrong (Some n) here there = Ok (n, there)
 pairs_or_wrong None here there = Err (fault_here kind.Wrong here)
 
+-- the map that must stand here, up to the pairs: their number, and the position behind its head
 unfoldable pub map_head_from : Position → Read ℕ
 map_head_from here = head_from here >>= λ h. pairs_or_wrong (map_len h.0) here h.1
 

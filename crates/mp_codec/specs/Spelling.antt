@@ -55,11 +55,11 @@ pub record Lies (v : Value) (here there : Position) : Type 0 where
 abbrev pub short : Position → FormatFault
 short here = record { at = end_of here; kind = Short }
 
--- c1 stands here
+-- 0xc1 stands here
 abbrev pub reserved : Position → FormatFault
 reserved here = record { at = here.at; kind = Reserved }
 
--- The first of so many values that stand from here on breaks off: the bytes end within it, or c1 stands in its place or in that of a value in it.
+-- one of so many values that should stand from here on breaks off, behind whole ones: the bytes end within it, or 0xc1 stands in its place or in that of a value in it
 pub data Breaks : ℕ → Position → FormatFault → Type 0 where
   short_head : {n : ℕ} {here : Position} → head_at here.left ≡ Err Short → Breaks (suc n) here (short here)
   reserved_head : {n : ℕ} {here : Position} → head_at here.left ≡ Err Reserved → Breaks (suc n) here (reserved here)

@@ -63,17 +63,20 @@ impl<'a> Cursor<'a> {
         self.rest.is_empty()
     }
 
-    /// The head of the next value: its family with its number, its length or the number of its parts.
-    /// A float's bytes are passed over; the payload of a str, bin or ext is left to `take`.
+    /// The head of the next value: its family, with its number, its length or the number of its
+    /// parts. The bytes of a float are passed over; the payload of a str, bin or ext is left to
+    /// `take`.
     ///
     /// `Short` where the bytes end within the head, at the place where they end.
-    /// `Reserved` where the first byte is c1, at its place. After a fault the cursor has not moved.
+    /// `Reserved` where the first byte is 0xc1, at its place. After a fault the cursor has not
+    /// moved.
     /// (MessagePack specification, "Formats".)
     pub fn head(&mut self) -> Result<Head, FormatFault>
         // What is taken spells the head.
         ensures found { IfOk result (λ head. HeadLies head self.old self.new) }
         // Where a head stands it is taken.
-        ensures only { (h : Head) (there : Position) → HeadLies h self.old there → (result ≡ Ok h) × (self.new ≡ there) }
+        ensures only { (h : Head) (there : Position) → HeadLies h self.old there
+            → (result ≡ Ok h) × (self.new ≡ there) }
         // A fault is where every value that begins here breaks off.
         ensures fault { IfErr result (λ f. Breaks 1 self.old f) }
         ensures unchanged { OnErr result (self.new ≡ self.old) }
@@ -83,28 +86,36 @@ impl<'a> Cursor<'a> {
         self.next_head()
     }
 
-    /// The next bytes, as many as are asked for: the payload of a str, bin or ext whose head was taken.
+    /// The next bytes, as many as are asked for: the payload of a str, bin or ext whose head was
+    /// taken.
     ///
-    /// `Short` where fewer are left, at the place where they end. After a fault the cursor has not moved.
+    /// `Short` where fewer are left, at the place where they end. After a fault the cursor has not
+    /// moved.
     pub fn take(&mut self, len: u32) -> Result<&'a [u8], FormatFault>
-        ensures found { IfOk result (λ taken. (length taken.now ≡ len) × Between taken.now self.old self.new) }
+        // What is taken are the next bytes, so many.
+        ensures found { IfOk result (λ taken. (length taken.now ≡ len)
+            × Between taken.now self.old self.new) }
+        // A fault is that fewer are left.
         ensures fault { IfErr result (λ f. (length self.old.left < len) × (f ≡ short self.old)) }
         ensures unchanged { OnErr result (self.new ≡ self.old) }
 
-        ensures exact { Steps (λ taken. taken.now) self.old self.new result (bytes_from len self.old) }
+        ensures exact { Steps (λ taken. taken.now) self.old self.new result
+            (bytes_from len self.old) }
     {
         self.next_bytes(len as usize)
     }
 
     /// Passes over one whole value of any depth, whatever it is.
     ///
-    /// `Short` where the bytes end within it, at the place where they end. `Reserved` where c1 stands in its place
-    /// or in that of a value in it, at that byte. After a fault the cursor has not moved.
+    /// `Short` where the bytes end within it, at the place where they end. `Reserved` where 0xc1
+    /// stands in its place or in that of a value in it, at that byte. After a fault the cursor has
+    /// not moved. It counts the values that are still to come, so that depth costs no memory.
     pub fn skip(&mut self) -> Result<(), FormatFault>
         // What is taken spells one value.
         ensures found { OnOk result ((v : Value) × Lies v self.old self.new) }
         // Where a value stands it is taken.
-        ensures only { (v : Value) (there : Position) → Lies v self.old there → IsOk result × (self.new ≡ there) }
+        ensures only { (v : Value) (there : Position) → Lies v self.old there
+            → IsOk result × (self.new ≡ there) }
         // A fault is the place where the value breaks off.
         ensures fault { IfErr result (λ f. Breaks 1 self.old f) }
         // Where it breaks off, that is the fault.
@@ -122,15 +133,16 @@ impl<'a> Cursor<'a> {
         }
     }
 
-    // The cursor behind the next value, found by counting the values that are still owed.
+    // The cursor behind the next value, found by counting the values that are still owed. Each of
+    // them takes a byte, so a count that stands still at its type's end is as good as the true one.
     fn behind_value(&self) -> Result<Cursor<'a>, FormatFault>
         ensures { result ≡ values_from 1 self.now }
     {
         let mut ahead = self.copy();
-        let mut owed: u128 = 1;
+        let mut owed: u64 = 1;
         while owed > 0 {
             match ahead.next_node() {
-                Ok(parts) => owed = owed - 1 + u128::from(parts),
+                Ok(parts) => owed = (owed - 1).saturating_add(parts),
                 Err(fault) => return Err(fault),
             }
         }
@@ -140,8 +152,7 @@ impl<'a> Cursor<'a> {
     // Passes over the head and the payload of the next value, and says how many values are in it.
     #[tactic(auto, unfolding(crate::specs::Reading::node_from))]
     fn next_node(&mut self) -> Result<u64, FormatFault>
-        ensures exact { NodePasses result self.new (node_from self.old) }
-        ensures small { IfOk result (λ parts. parts < 2 ^ 33) }
+        ensures { NodePasses result self.new (node_from self.old) }
     {
         let head = self.next_head()?;
         let _payload = self.next_bytes(head.payload_len() as usize)?;

@@ -5,7 +5,7 @@
 pub enum FaultKind {
     /// The bytes end within a value. Printed as 1.
     Short,
-    /// The byte c1, which is never used, stands at a value's place. Printed as 2.
+    /// The byte 0xc1, which is never used, stands at a value's place. Printed as 2.
     Reserved,
     /// A str that must be text isn't UTF-8. Printed as 3.
     NotText,

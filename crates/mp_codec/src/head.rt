@@ -1,7 +1,7 @@
 //! What a value begins with: its first byte, and the bytes behind it that belong to its head.
 
-ghost use Rattle.std.specs.Prelude.{◌≡◌, ◌≤◌, ◌<◌, ◌^◌, true, length, IfOk};
-ghost use Rattle.mp_codec.specs.Format.{big_endian, form, is_width, is_readable, is_readable_form, head_behind, head_at, part_count, payload_len};
+ghost use Rattle.std.specs.Prelude.{◌≡◌, ◌≤◌, ◌<◌, ◌^◌, ◌+◌, true, length, IfOk};
+ghost use Rattle.mp_codec.specs.Format.{big_endian, form, is_width, is_readable, is_readable_form, head_behind, head_of_form, head_at, part_count, payload_len};
 
 use crate::fault::FaultKind;
 
@@ -62,53 +62,8 @@ enum Behind {
     Signed(u64),
 }
 
-#[tactic(auto, unfolding(crate::specs::Format::form))]
-fn form_of(first: u8) -> Form
-    ensures value { result ≡ form first }
-    ensures readable { is_readable_form result ≡ true }
-{
-    match first {
-        0x00..=0x7f => Form::Whole(Head::Int(i128::from(first))),
-        0x80..=0x8f => Form::Whole(Head::Map(u32::from(first - 0x80))),
-        0x90..=0x9f => Form::Whole(Head::Array(u32::from(first - 0x90))),
-        0xa0..=0xbf => Form::Whole(Head::Str(u32::from(first - 0xa0))),
-        0xc0 => Form::Whole(Head::Nil),
-        0xc1 => Form::Never,
-        0xc2 => Form::Whole(Head::Bool(false)),
-        0xc3 => Form::Whole(Head::Bool(true)),
-        0xc4 => Form::Followed(1, Behind::Bin),
-        0xc5 => Form::Followed(2, Behind::Bin),
-        0xc6 => Form::Followed(4, Behind::Bin),
-        0xc7 => Form::Followed(2, Behind::Ext),
-        0xc8 => Form::Followed(3, Behind::Ext),
-        0xc9 => Form::Followed(5, Behind::Ext),
-        0xca => Form::Followed(4, Behind::Float),
-        0xcb => Form::Followed(8, Behind::Float),
-        0xcc => Form::Followed(1, Behind::Unsigned),
-        0xcd => Form::Followed(2, Behind::Unsigned),
-        0xce => Form::Followed(4, Behind::Unsigned),
-        0xcf => Form::Followed(8, Behind::Unsigned),
-        0xd0 => Form::Followed(1, Behind::Signed(1 << 7)),
-        0xd1 => Form::Followed(2, Behind::Signed(1 << 15)),
-        0xd2 => Form::Followed(4, Behind::Signed(1 << 31)),
-        0xd3 => Form::Followed(8, Behind::Signed(1 << 63)),
-        0xd4 => Form::Followed(1, Behind::Type(1)),
-        0xd5 => Form::Followed(1, Behind::Type(2)),
-        0xd6 => Form::Followed(1, Behind::Type(4)),
-        0xd7 => Form::Followed(1, Behind::Type(8)),
-        0xd8 => Form::Followed(1, Behind::Type(16)),
-        0xd9 => Form::Followed(1, Behind::Str),
-        0xda => Form::Followed(2, Behind::Str),
-        0xdb => Form::Followed(4, Behind::Str),
-        0xdc => Form::Followed(2, Behind::Array),
-        0xdd => Form::Followed(4, Behind::Array),
-        0xde => Form::Followed(2, Behind::Map),
-        0xdf => Form::Followed(4, Behind::Map),
-        0xe0..=0xff => Form::Whole(Head::Int(i128::from(first) - 0x100)),
-    }
-}
-
 // The number that one, two, four or eight bytes spell.
+#[inline(always)]
 fn number(bytes: &[u8]) -> u64
     requires { is_width (length bytes.now) ≡ true }
     ensures value { result ≡ big_endian bytes.now }
@@ -124,6 +79,7 @@ fn number(bytes: &[u8]) -> u64
 }
 
 // The head that the bytes behind its first byte give.
+#[inline(always)]
 fn head_of(behind: Behind, bytes: &[u8]) -> Head
     requires { is_readable behind (length bytes.now) ≡ true }
     ensures { result ≡ head_behind behind bytes.now }
@@ -154,17 +110,77 @@ pub(crate) fn head_in(bytes: &[u8]) -> Result<(Head, usize), FaultKind>
     ensures exact { result ≡ head_at bytes.now }
     ensures within { IfOk result (λ taken. taken.1 ≤ length bytes.now) }
 {
-    let [first, rest @ ..] = bytes else {
-        return Err(FaultKind::Short);
-    };
-    match form_of(*first) {
-        Form::Whole(head) => Ok((head, 1)),
-        Form::Never => Err(FaultKind::Reserved),
-        Form::Followed(len, behind) => {
-            if rest.len() < len {
-                return Err(FaultKind::Short);
+    match bytes {
+        [first, rest @ ..] => head_by_first_byte(*first, rest),
+        [] => Err(FaultKind::Short),
+    }
+}
+
+#[tactic(auto, unfolding(crate::specs::Format::form))]
+// The head that begins with this byte, where these bytes stand behind it, and how many bytes it
+// takes. Each form is a constant where it is read, so that code is made for it alone.
+fn head_by_first_byte(first: u8, rest: &[u8]) -> Result<(Head, usize), FaultKind>
+    ensures exact { result ≡ head_of_form (form first) rest.now }
+    ensures within { IfOk result (λ taken. taken.1 ≤ length rest.now + 1) }
+{
+    match first {
+        0x00..=0x7f => Form::Whole(Head::Int(i128::from(first))).head(rest),
+        0x80..=0x8f => Form::Whole(Head::Map(u32::from(first - 0x80))).head(rest),
+        0x90..=0x9f => Form::Whole(Head::Array(u32::from(first - 0x90))).head(rest),
+        0xa0..=0xbf => Form::Whole(Head::Str(u32::from(first - 0xa0))).head(rest),
+        0xc0 => Form::Whole(Head::Nil).head(rest),
+        0xc1 => Form::Never.head(rest),
+        0xc2 => Form::Whole(Head::Bool(false)).head(rest),
+        0xc3 => Form::Whole(Head::Bool(true)).head(rest),
+        0xc4 => Form::Followed(1, Behind::Bin).head(rest),
+        0xc5 => Form::Followed(2, Behind::Bin).head(rest),
+        0xc6 => Form::Followed(4, Behind::Bin).head(rest),
+        0xc7 => Form::Followed(2, Behind::Ext).head(rest),
+        0xc8 => Form::Followed(3, Behind::Ext).head(rest),
+        0xc9 => Form::Followed(5, Behind::Ext).head(rest),
+        0xca => Form::Followed(4, Behind::Float).head(rest),
+        0xcb => Form::Followed(8, Behind::Float).head(rest),
+        0xcc => Form::Followed(1, Behind::Unsigned).head(rest),
+        0xcd => Form::Followed(2, Behind::Unsigned).head(rest),
+        0xce => Form::Followed(4, Behind::Unsigned).head(rest),
+        0xcf => Form::Followed(8, Behind::Unsigned).head(rest),
+        0xd0 => Form::Followed(1, Behind::Signed(1 << 7)).head(rest),
+        0xd1 => Form::Followed(2, Behind::Signed(1 << 15)).head(rest),
+        0xd2 => Form::Followed(4, Behind::Signed(1 << 31)).head(rest),
+        0xd3 => Form::Followed(8, Behind::Signed(1 << 63)).head(rest),
+        0xd4 => Form::Followed(1, Behind::Type(1)).head(rest),
+        0xd5 => Form::Followed(1, Behind::Type(2)).head(rest),
+        0xd6 => Form::Followed(1, Behind::Type(4)).head(rest),
+        0xd7 => Form::Followed(1, Behind::Type(8)).head(rest),
+        0xd8 => Form::Followed(1, Behind::Type(16)).head(rest),
+        0xd9 => Form::Followed(1, Behind::Str).head(rest),
+        0xda => Form::Followed(2, Behind::Str).head(rest),
+        0xdb => Form::Followed(4, Behind::Str).head(rest),
+        0xdc => Form::Followed(2, Behind::Array).head(rest),
+        0xdd => Form::Followed(4, Behind::Array).head(rest),
+        0xde => Form::Followed(2, Behind::Map).head(rest),
+        0xdf => Form::Followed(4, Behind::Map).head(rest),
+        0xe0..=0xff => Form::Whole(Head::Int(i128::from(first) - 0x100)).head(rest),
+    }
+}
+
+impl Form {
+    // The head of this form with these bytes behind its first one, and how many bytes it takes.
+    #[inline(always)]
+    fn head(self, rest: &[u8]) -> Result<(Head, usize), FaultKind>
+        requires { is_readable_form self ≡ true }
+        ensures exact { result ≡ head_of_form self rest.now }
+        ensures within { IfOk result (λ taken. taken.1 ≤ length rest.now + 1) }
+    {
+        match self {
+            Form::Whole(head) => Ok((head, 1)),
+            Form::Never => Err(FaultKind::Reserved),
+            Form::Followed(len, behind) => {
+                if rest.len() < len {
+                    return Err(FaultKind::Short);
+                }
+                Ok((head_of(behind, &rest[..len]), len + 1))
             }
-            Ok((head_of(behind, &rest[..len]), len + 1))
         }
     }
 }
@@ -187,8 +203,7 @@ impl Head {
 
     // How many values the head claims.
     pub(crate) fn part_count(self) -> u64
-        ensures value { result ≡ part_count self }
-        ensures small { result < 2 ^ 33 }
+        ensures { result ≡ part_count self }
     {
         match self {
             Head::Array(count) => u64::from(count),

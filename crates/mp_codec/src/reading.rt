@@ -17,9 +17,10 @@ use crate::fault::{FaultKind, FormatFault};
 use crate::head::Head;
 use std::str;
 
-// The bytes as text, where they are UTF-8.
-fn text_in(bytes: &[u8]) -> Option<&str>
-    ensures { MatchOption result (is_utf8 bytes.now ≡ false) (λ t. (is_utf8 bytes.now ≡ true) × (t.now ≡ bytes.now)) }
+/// The bytes as text, or None where they aren't UTF-8.
+pub fn utf8_text(bytes: &[u8]) -> Option<&str>
+    ensures { MatchOption result (is_utf8 bytes.now ≡ false)
+        (λ t. (is_utf8 bytes.now ≡ true) × (t.now ≡ bytes.now)) }
 {
     match str::from_utf8(bytes) {
         Ok(text) => Some(text),
@@ -30,8 +31,8 @@ fn text_in(bytes: &[u8]) -> Option<&str>
 impl<'a> Cursor<'a> {
     /// The number of pairs of the map that must stand here; the cursor goes behind its head.
     ///
-    /// `Short` and `Reserved` as `head` does; `Wrong` at the head where another kind of value stands.
-    /// After a fault the cursor has not moved.
+    /// `Short` and `Reserved` as `head` does; `Wrong` at the head where another kind of value
+    /// stands. After a fault the cursor has not moved.
     pub fn map_len(&mut self) -> Result<u32, FormatFault>
         ensures found { IfOk result (λ pairs. HeadLies (Head.Map pairs) self.old self.new) }
         ensures unchanged { OnErr result (self.new ≡ self.old) }
@@ -46,8 +47,8 @@ impl<'a> Cursor<'a> {
 
     /// The text that must stand here; the cursor goes behind it.
     ///
-    /// `Short` and `Reserved` where it breaks off, as `skip` does. `Wrong` at its head where it is no str,
-    /// `NotText` at its head where it isn't UTF-8. After a fault the cursor has not moved.
+    /// `Short` and `Reserved` where it breaks off, as `skip` does. `Wrong` at its head where it is
+    /// no str, `NotText` at its head where it isn't UTF-8. After a fault the cursor has not moved.
     pub fn text(&mut self) -> Result<&'a str, FormatFault>
         // What is taken is this text.
         ensures found { IfOk result (λ text. ValueLies str_of (Some text.now) self.old self.new) }
@@ -63,12 +64,15 @@ impl<'a> Cursor<'a> {
         Ok(text)
     }
 
-    /// The bytes of the str that stands here, or None of a value of another kind; the cursor goes behind the value.
+    /// The bytes of the str that stands here, or None of a value of another kind; the cursor goes
+    /// behind the value.
     ///
-    /// `Short` and `Reserved` where the value breaks off, as `skip` does. After a fault the cursor has not moved.
+    /// `Short` and `Reserved` where the value breaks off, as `skip` does. After a fault the cursor
+    /// has not moved.
     pub fn str_or_skip(&mut self) -> Result<Option<&'a [u8]>, FormatFault>
         // What is taken is a value with these bytes, or one that is no str.
-        ensures found { IfOk result (λ bytes. ValueLies str_of (bytes_behind bytes) self.old self.new) }
+        ensures found { IfOk result (λ bytes.
+            ValueLies str_of (bytes_behind bytes) self.old self.new) }
         // A fault is the place where the value breaks off.
         ensures fault { IfErr result (λ f. Breaks 1 self.old f) }
         ensures unchanged { OnErr result (self.new ≡ self.old) }
@@ -81,9 +85,11 @@ impl<'a> Cursor<'a> {
         Ok(bytes)
     }
 
-    /// The whole number from 0 to 2^64 - 1 that stands here, or None of another value; the cursor goes behind the value.
+    /// The whole number from 0 to 2^64 - 1 that stands here, or None of another value; the cursor
+    /// goes behind the value.
     ///
-    /// `Short` and `Reserved` where the value breaks off, as `skip` does. After a fault the cursor has not moved.
+    /// `Short` and `Reserved` where the value breaks off, as `skip` does. After a fault the cursor
+    /// has not moved.
     pub fn number_or_skip(&mut self) -> Result<Option<u64>, FormatFault>
         // What is taken is this number, or a value that is none.
         ensures found { IfOk result (λ number. ValueLies number_of number self.old self.new) }
@@ -121,7 +127,7 @@ fn text_ahead<'a>(cursor: &mut Cursor<'a>) -> Result<&'a str, FormatFault>
         return Err(wrong(at));
     };
     let bytes = cursor.take(len)?;
-    match text_in(bytes) {
+    match utf8_text(bytes) {
         Some(text) => Ok(text),
         None => Err(FormatFault {
             at: at as u64,

@@ -1,12 +1,12 @@
-use Rattle.std.proofs.Common.{◌≡◌, ◌≤◌, ◌<◌, ◌^◌, ◌+◌, ◌*◌, length}
+use Rattle.std.proofs.Common.{◌≡◌, ◌≤◌, ◌<◌, ◌^◌, length}
 use Rattle.mp_codec.specs.Reading.{values_from}
 use Rattle.mp_codec.proofs.cursor.Cursor.behind_value.Given as goal
 
--- what is owed from here on is what one value is from the start, and it fits its type
+-- what is owed from here on is what one value is from the start
 abbrev pub invariant-loop-owed : goal.invariant-loop-owed
 invariant-loop-owed l =
     (values_from l.owed l.ahead ≡ values_from 1 l.self)
-    × (l.owed + 2 ^ 33 * length l.ahead.left ≤ 1 + 2 ^ 33 * length l.self.left)
+    × (length l.ahead.left ≤ length l.self.left)
     × (length l.self.left < 2 ^ 64)
 
 abbrev pub decreases-loop-owed : goal.decreases-loop-owed

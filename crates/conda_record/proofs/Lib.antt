@@ -1,0 +1,5 @@
+pub mod FoundLemmas
+pub mod TextLoop
+pub mod ValueLemmas
+pub mod RecordLemmas
+pub mod RefusalLemmas

@@ -1,0 +1,9 @@
+pub mod Texts
+pub mod Digests
+pub mod Record
+pub mod View
+pub mod Reading
+pub use Rattle.mp_codec.specs.Value
+pub use Rattle.mp_codec.specs.Spelling
+pub use Rattle.mp_codec.specs.Fault
+pub use Rattle.mp_codec.specs.Keys

@@ -1,0 +1,18 @@
+//! Package records: what a map of MessagePack says of one package file (CEP 16, "package records").
+//!
+//! Contracts see a `PackageRecord` as its `Fields` (`specs/Record`), and a `RecordView` as those of
+//! its record (`specs/View`). The layer above uses: what `read` gives stands at the cursor with
+//! nothing wrong, and a fault is the first one.
+#![tactic(auto)]
+
+mod reading;
+mod record;
+mod refusal;
+#[cfg(test)]
+mod tests;
+mod value;
+mod view;
+
+pub use record::PackageRecord;
+pub use refusal::RecordRefusal;
+pub use view::RecordView;

@@ -1,0 +1,267 @@
+//! Reading a record from a cursor, key by key.
+
+ghost use Rattle.std.specs.Prelude.{◌≡◌, IfOk, IfErr, IfSome, OnErr, MatchResult, Some, None, is_some, slice_index_or, true};
+ghost use Rattle.std.specs.List.{list_all};
+ghost use Rattle.gateway_words.specs.Places.{Position};
+ghost use Rattle.gateway_words.specs.Reading.{Gives};
+ghost use Rattle.mp_codec.specs.Fault.{IsFirstFault, WithBreaks};
+ghost use Rattle.mp_codec.specs.Reading.{Advances};
+ghost use Rattle.mp_codec.specs.Maps.{bytes_behind, place_of, unread, known_key_from, known_value_from};
+ghost use Rattle.conda_record.specs.Record.{Fields, record_keys, RecordFault, RecordAt};
+ghost use Rattle.conda_record.specs.Reading.{fault_of, place, known, datum_from, end_from, pairs_from, record_from};
+
+use crate::record::PackageRecord;
+use crate::refusal::RecordRefusal;
+use crate::value::{digest_or_skip, text_or_skip, texts_or_skip};
+use mp_codec::{Cursor, FaultKind, FormatFault, Text};
+use std::alloc::Global;
+
+// A key of a record.
+#[derive(Clone, Copy)]
+enum Key {
+    Name,
+    Version,
+    Build,
+    BuildNumber,
+    Depends,
+    Constrains,
+    Subdir,
+    Md5,
+    Sha256,
+    Size,
+    Timestamp,
+    License,
+    Noarch,
+    // A key that isn't known.
+    Other,
+}
+
+// What was read so far: of each key what stands behind it, or None where the key was not met.
+#[derive(Drop)]
+struct Found {
+    name: Option<Text>,
+    version: Option<Text>,
+    build: Option<Text>,
+    build_number: Option<Option<u64>>,
+    depends: Option<Option<Vec<Text>>>,
+    constrains: Option<Option<Vec<Text>>>,
+    subdir: Option<Option<Text>>,
+    md5: Option<Option<[u8; 16]>>,
+    sha256: Option<Option<[u8; 32]>>,
+    size: Option<Option<u64>>,
+    timestamp: Option<Option<u64>>,
+    license: Option<Option<Text>>,
+    noarch: Option<Option<Text>>,
+}
+
+// The known key with these bytes.
+fn key_of(key: Option<&[u8]>) -> Key
+    ensures { place result ≡ place_of record_keys (bytes_behind key.entry) }
+{
+    let Some(bytes) = key else {
+        return Key::Other;
+    };
+    if bytes == b"name".as_slice() {
+        Key::Name
+    } else if bytes == b"version".as_slice() {
+        Key::Version
+    } else if bytes == b"build".as_slice() {
+        Key::Build
+    } else if bytes == b"build_number".as_slice() {
+        Key::BuildNumber
+    } else if bytes == b"depends".as_slice() {
+        Key::Depends
+    } else if bytes == b"constrains".as_slice() {
+        Key::Constrains
+    } else if bytes == b"subdir".as_slice() {
+        Key::Subdir
+    } else if bytes == b"md5".as_slice() {
+        Key::Md5
+    } else if bytes == b"sha256".as_slice() {
+        Key::Sha256
+    } else if bytes == b"size".as_slice() {
+        Key::Size
+    } else if bytes == b"timestamp".as_slice() {
+        Key::Timestamp
+    } else if bytes == b"license".as_slice() {
+        Key::License
+    } else if bytes == b"noarch".as_slice() {
+        Key::Noarch
+    } else {
+        Key::Other
+    }
+}
+
+impl Found {
+    // Nothing was read.
+    fn new() -> Found
+        ensures { known result ≡ unread record_keys }
+    {
+        Found {
+            name: None,
+            version: None,
+            build: None,
+            build_number: None,
+            depends: None,
+            constrains: None,
+            subdir: None,
+            md5: None,
+            sha256: None,
+            size: None,
+            timestamp: None,
+            license: None,
+            noarch: None,
+        }
+    }
+
+    // Whether this key was read.
+    fn has(&self, key: Key) -> bool
+        ensures { result ≡ is_some (slice_index_or (known self.now) (place key) None) }
+    {
+        match key {
+            Key::Name => self.name.is_some(),
+            Key::Version => self.version.is_some(),
+            Key::Build => self.build.is_some(),
+            Key::BuildNumber => self.build_number.is_some(),
+            Key::Depends => self.depends.is_some(),
+            Key::Constrains => self.constrains.is_some(),
+            Key::Subdir => self.subdir.is_some(),
+            Key::Md5 => self.md5.is_some(),
+            Key::Sha256 => self.sha256.is_some(),
+            Key::Size => self.size.is_some(),
+            Key::Timestamp => self.timestamp.is_some(),
+            Key::License => self.license.is_some(),
+            Key::Noarch => self.noarch.is_some(),
+            Key::Other => false,
+        }
+    }
+
+    // Reads the value of a key that was not read before.
+    #[tactic(auto, unfolding(mp_codec::specs::Maps::known_value_from))]
+    fn read_value(
+        &mut self,
+        alloc: Global,
+        cur: &mut Cursor<'_>,
+        key: Key,
+    ) -> Result<(), RecordRefusal>
+        ensures { Gives (λ _. (known self.new, cur.new)) fault_of result
+            (known_value_from record_keys datum_from (known self.old) (place key) cur.old) }
+    {
+        match key {
+            Key::Name => self.name = Some(Text::copy(alloc, cur.text()?)?),
+            Key::Version => self.version = Some(Text::copy(alloc, cur.text()?)?),
+            Key::Build => self.build = Some(Text::copy(alloc, cur.text()?)?),
+            Key::BuildNumber => self.build_number = Some(cur.number_or_skip()?),
+            Key::Depends => self.depends = Some(texts_or_skip(alloc, cur)?),
+            Key::Constrains => self.constrains = Some(texts_or_skip(alloc, cur)?),
+            Key::Subdir => self.subdir = Some(text_or_skip(alloc, cur)?),
+            Key::Md5 => self.md5 = Some(digest_or_skip(cur)?),
+            Key::Sha256 => self.sha256 = Some(digest_or_skip(cur)?),
+            Key::Size => self.size = Some(cur.number_or_skip()?),
+            Key::Timestamp => self.timestamp = Some(cur.number_or_skip()?),
+            Key::License => self.license = Some(text_or_skip(alloc, cur)?),
+            Key::Noarch => self.noarch = Some(text_or_skip(alloc, cur)?),
+            Key::Other => cur.skip()?,
+        }
+        Ok(())
+    }
+
+    // The record, where the required keys were read.
+    #[tactic(auto, unfolding(mp_codec::specs::Maps::known_end_from, crate::specs::Reading::end_from))]
+    fn finish(self, alloc: Global, cur: &Cursor<'_>) -> Result<PackageRecord, FormatFault>
+        ensures { Advances (λ r. r) cur.now result (end_from (known self) cur.now) }
+    {
+        let (Some(name), Some(version), Some(build)) = (self.name, self.version, self.build) else {
+            return Err(FormatFault {
+                at: cur.at() as u64,
+                kind: FaultKind::Missing,
+            });
+        };
+        Ok(PackageRecord {
+            name,
+            version,
+            build,
+            build_number: self.build_number.flatten().unwrap_or(0),
+            depends: self.depends.flatten().unwrap_or(Vec::new(alloc)),
+            constrains: self.constrains.flatten().unwrap_or(Vec::new(alloc)),
+            subdir: self.subdir.flatten(),
+            md5: self.md5.flatten(),
+            sha256: self.sha256.flatten(),
+            size: self.size.flatten(),
+            timestamp: self.timestamp.flatten(),
+            license: self.license.flatten(),
+            noarch: self.noarch.flatten(),
+        })
+    }
+}
+
+// The key that stands at the cursor, which was not read before if it is known.
+#[tactic(auto, unfolding(mp_codec::specs::Maps::known_key_from))]
+fn next_key(cur: &mut Cursor<'_>, found: &Found) -> Result<Key, FormatFault>
+    ensures { Advances place cur.new result (known_key_from record_keys (known found.now) cur.old) }
+{
+    let at = cur.at();
+    let key = key_of(cur.str_or_skip()?);
+    if found.has(key) {
+        return Err(FormatFault {
+            at: at as u64,
+            kind: FaultKind::Repeated,
+        });
+    }
+    Ok(key)
+}
+
+// So many pairs of a record, and its end.
+fn pairs_of_record(
+    alloc: Global,
+    cur: &mut Cursor<'_>,
+    pairs: u32,
+) -> Result<PackageRecord, RecordRefusal>
+    ensures { Gives (λ r. (r, cur.new)) fault_of result
+        (pairs_from pairs (unread record_keys) cur.old) }
+{
+    let mut found = Found::new();
+    for _ in 0..pairs {
+        let key = next_key(cur, &found)?;
+        found.read_value(alloc, cur, key)?;
+    }
+    Ok(found.finish(alloc, cur)?)
+}
+
+// The record that stands at the cursor.
+#[tactic(auto, unfolding(mp_codec::specs::Maps::map_from, crate::specs::Reading::record_from))]
+fn record_here(alloc: Global, cur: &mut Cursor<'_>) -> Result<PackageRecord, RecordRefusal>
+    ensures { Gives (λ r. (r, cur.new)) fault_of result (record_from cur.old) }
+{
+    let pairs = cur.map_len()?;
+    pairs_of_record(alloc, cur, pairs)
+}
+
+impl PackageRecord {
+    /// The record that stands at the cursor, which goes behind it.
+    ///
+    /// `Fault` with the first fault that stands in it: a value that breaks off, a record that is no
+    /// map, a required key that is missing or whose value is no text, a known key that stands twice.
+    /// Places are counted from the start of the cursor's bytes; what follows the record is no fault.
+    /// `Memory` where memory runs out. After a refusal the cursor has not moved.
+    /// (CEP 16, "package records"; `docs/FORMATS.md`, "Package records".)
+    pub fn read(alloc: Global, cur: &mut Cursor<'_>) -> Result<PackageRecord, RecordRefusal>
+        // What is read stands there, and nothing is wrong with it.
+        ensures found { IfOk result (λ r. RecordAt cur.old r cur.new) }
+        // What stands there with nothing wrong is read, unless memory runs out.
+        ensures only { (fields : Fields) (there : Position) → RecordAt cur.old fields there
+            → MatchResult result (λ r. (r ≡ fields) × (cur.new ≡ there))
+            (λ e. e ≡ RecordRefusal.Memory) }
+        // A fault is the first one.
+        ensures fault { IfErr result (λ e.
+            IfSome (fault_of e) (IsFirstFault (WithBreaks RecordFault cur.old))) }
+        ensures unchanged { OnErr result (cur.new ≡ cur.old) }
+
+        ensures exact { Gives (λ r. (r, cur.new)) fault_of result (record_from cur.old) }
+    {
+        let mut ahead = cur.copy();
+        let record = record_here(alloc, &mut ahead)?;
+        *cur = ahead;
+        Ok(record)
+    }
+}

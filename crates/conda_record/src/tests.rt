@@ -1,0 +1,287 @@
+//! Records worked out by hand: every key, every kind of value behind a key, and each fault with
+//! its place.
+
+use crate::record::PackageRecord;
+use crate::refusal::RecordRefusal;
+use crate::view::RecordView;
+use mp_codec::FaultKind::{self, Missing, NotText, Repeated, Reserved, Short, Wrong};
+use mp_codec::{Cursor, FormatFault};
+use std::alloc::Global;
+use std::test::Fail;
+
+const MD5: [u8; 16] = [0xab; 16];
+
+const SHA256: [u8; 32] = [0xcd; 32];
+
+// All keys, an unknown one among them, and behind the record a byte of another value.
+const ALL_KEYS: &[u8] = b"\x8e\
+    \xa7version\xa61.26.0\
+    \xa4name\xa5numpy\
+    \xa5build\xa6py312_\
+    \xacbuild_number\xcd\x01\x02\
+    \xa7depends\x92\xacpython >=3.9\xa4blas\
+    \xaaconstrains\x91\xa5a <\xc3\xa9\
+    \xa6subdir\xa8linux-64\
+    \xa8unknown!\x81\x01\xc7\x01\x05\xff\
+    \xa3md5\xc4\x10\xab\xab\xab\xab\xab\xab\xab\xab\xab\xab\xab\xab\xab\xab\xab\xab\
+    \xa6sha256\xd9\x40cdCDcdcdcdcdcdcdcdcdcdcdcdcdcdcdcdcdcdcdcdcdcdcdcdcdcdcdcdcdcdcd\
+    \xa4size\xce\x00\x01\x00\x00\
+    \xa9timestamp\xcf\x00\x00\x01\x8a\xbc\xde\xf0\x12\
+    \xa7license\xacBSD-3-Clause\
+    \xa6noarch\xa6python\
+    \x07";
+
+// The shortest record: its three required keys.
+const REQUIRED: &[u8] = b"\x83\xa4name\xa1a\xa7version\xa11\xa5build\xa10";
+
+// Bytes behind a nil, so that places are counted from the first byte, and the fault in the record
+// that stands behind it.
+const FAULTS: [(&[u8], FaultKind, u64); 27] = [
+    // The bytes end within the head, a key, a value, or in front of a pair.
+    (b"\xc0", Short, 1),
+    (b"\xc0\xde\x00", Short, 3),
+    (b"\xc0\xdf\xff\xff\xff\xff", Short, 6),
+    (b"\xc0\x83\xa4nam", Short, 6),
+    (b"\xc0\x83\xa4name\xa9a", Short, 9),
+    (b"\xc0\x83\xa4name\xa1a", Short, 9),
+    (b"\xc0\x81\xa4size\xcf\x00", Short, 9),
+    (b"\xc0\x81\xa7depends\x92\xa1a", Short, 13),
+    (b"\xc0\x81\xa3md5\xc4\x10\x00", Short, 9),
+    // The byte that is never used, as the record, a key, and within values of every depth.
+    (b"\xc0\xc1", Reserved, 1),
+    (b"\xc0\x81\xc1\x00", Reserved, 2),
+    (b"\xc0\x81\xa4name\xc1", Reserved, 7),
+    (b"\xc0\x81\xa4size\xc1", Reserved, 7),
+    (b"\xc0\x81\xa7depends\x92\x07\xc1", Reserved, 12),
+    (b"\xc0\x81\x01\x81\x91\xc1\x00", Reserved, 5),
+    // A record that is no map, and required keys whose values are no strs.
+    (b"\xc0\x93\xa1a\xa11\xa10", Wrong, 1),
+    (b"\xc0\x81\xa4name\x01", Wrong, 7),
+    (b"\xc0\x81\xa7version\xcb\x3f\xf0\x00\x00\x00\x00\x00\x00", Wrong, 10),
+    (b"\xc0\x81\xa5build\xc4\x010", Wrong, 8),
+    // Required keys whose values are no UTF-8.
+    (b"\xc0\x81\xa4name\xa1\xff", NotText, 7),
+    (b"\xc0\x81\xa5build\xd9\x02\xc3\x28", NotText, 8),
+    // A required key is missing: the place is behind the map.
+    (b"\xc0\x80", Missing, 2),
+    (b"\xc0\x82\xa4name\xa1a\xa7version\xa11\xa5build\xa10", Missing, 19),
+    (b"\xc0\x81\xc4\x04name\xa1a", Missing, 10),
+    // A known key stands twice, whatever its values are.
+    (b"\xc0\x84\xa4name\xa1a\xa4name\xa1a", Repeated, 9),
+    (b"\xc0\x83\xa4size\x07\xd9\x04size\xc1", Repeated, 8),
+    (b"\xc0\x82\xa7license\xc0\xa7license\xa1x", Repeated, 11),
+];
+
+// Each optional key, as it is spelled.
+const OPTIONAL: [&[u8]; 10] = [
+    b"\xacbuild_number",
+    b"\xa7depends",
+    b"\xaaconstrains",
+    b"\xa6subdir",
+    b"\xa3md5",
+    b"\xa6sha256",
+    b"\xa4size",
+    b"\xa9timestamp",
+    b"\xa7license",
+    b"\xa6noarch",
+];
+
+// Values of each kind, none of which an optional key may have.
+const OTHER_KINDS: [&[u8]; 13] = [
+    b"\xc0",
+    b"\xc2",
+    b"\xff",
+    b"\xd3\x80\x00\x00\x00\x00\x00\x00\x00",
+    b"\xca\x3f\x80\x00\x00",
+    b"\xa2\xc3\x28",
+    b"\xc4\x0f\xab\xab\xab\xab\xab\xab\xab\xab\xab\xab\xab\xab\xab\xab\xab",
+    b"\xc4\x11\xab\xab\xab\xab\xab\xab\xab\xab\xab\xab\xab\xab\xab\xab\xab\xab\xab",
+    b"\x91\x07",
+    b"\x92\xa1a\xa1\xff",
+    b"\x81\xa1a\xa1b",
+    b"\xd4\x05\x00",
+    b"\xc7\x02\x05\xff\xff",
+];
+
+// What is wrong, and where.
+fn in_parts(outcome: Result<PackageRecord, RecordRefusal>) -> Option<(FaultKind, u64)> {
+    match outcome {
+        Err(RecordRefusal::Fault(fault)) => Some((fault.kind, fault.at)),
+        Ok(_) | Err(RecordRefusal::Memory) => None,
+    }
+}
+
+// The record of the required keys, and behind them these bytes: one key with its value.
+fn with_pair(alloc: Global, pair: &[&[u8]]) -> Result<PackageRecord, Fail> {
+    let mut bytes = REQUIRED.to_vec(alloc)?;
+    if let Some(head) = bytes.first_mut() {
+        *head = 0x84;
+    }
+    for part in pair {
+        bytes.extend_from_slice(part)?;
+    }
+    let mut cursor = Cursor::new(bytes.as_slice());
+    let record = read(alloc, &mut cursor)?;
+    if cursor.is_end() { Ok(record) } else { Err("bytes are left".into()) }
+}
+
+fn read(alloc: Global, cursor: &mut Cursor<'_>) -> Result<PackageRecord, Fail> {
+    match PackageRecord::read(alloc, cursor) {
+        Ok(record) => Ok(record),
+        Err(refusal) => Err(refusal.into()),
+    }
+}
+
+// Whether none of the optional keys is there.
+fn has_required_alone(view: RecordView<'_>) -> bool {
+    view.name() == "a"
+        && view.version() == "1"
+        && view.build() == "0"
+        && view.build_number() == 0
+        && view.depends_len() == 0
+        && view.constrains_len() == 0
+        && view.subdir().is_none()
+        && view.md5().is_none()
+        && view.sha256().is_none()
+        && view.size().is_none()
+        && view.timestamp().is_none()
+        && view.license().is_none()
+        && view.noarch().is_none()
+}
+
+#[test]
+fn reads_all_keys(rt: HostRuntime) -> Result<(), Fail> {
+    let mut cursor = Cursor::new(ALL_KEYS);
+    let record = read(rt.alloc(), &mut cursor)?;
+    assert_eq!(rt; cursor.at() + 1, ALL_KEYS.len());
+    let view = record.view();
+    assert_eq!(rt; view.name(), "numpy");
+    assert_eq!(rt; view.version(), "1.26.0");
+    assert_eq!(rt; view.build(), "py312_");
+    assert_eq!(rt; view.build_number(), 258);
+    assert_eq!(rt; view.depends_len(), 2);
+    assert_eq!(rt; view.depend(0), Some("python >=3.9"));
+    assert_eq!(rt; view.depend(1), Some("blas"));
+    assert_eq!(rt; view.depend(2), None);
+    assert_eq!(rt; view.constrains_len(), 1);
+    assert_eq!(rt; view.constrain(0), Some("a <\u{e9}"));
+    assert_eq!(rt; view.constrain(1), None);
+    assert_eq!(rt; view.subdir(), Some("linux-64"));
+    assert_eq!(rt; view.md5(), Some(MD5));
+    assert_eq!(rt; view.sha256(), Some(SHA256));
+    assert_eq!(rt; view.size(), Some(65_536));
+    assert_eq!(rt; view.timestamp(), Some(0x0000_018a_bcde_f012));
+    assert_eq!(rt; view.license(), Some("BSD-3-Clause"));
+    assert_eq!(rt; view.noarch(), Some("python"));
+    Ok(())
+}
+
+#[test]
+fn reads_the_required_keys_alone(rt: HostRuntime) -> Result<(), Fail> {
+    let mut cursor = Cursor::new(REQUIRED);
+    let record = read(rt.alloc(), &mut cursor)?;
+    assert!(rt; cursor.is_end());
+    assert!(rt; has_required_alone(record.view()));
+    Ok(())
+}
+
+#[test]
+fn a_value_of_another_kind_counts_as_missing(rt: HostRuntime) -> Result<(), Fail> {
+    for key in OPTIONAL {
+        for value in OTHER_KINDS {
+            let record = with_pair(rt.alloc(), &[key, value])?;
+            assert!(rt; has_required_alone(record.view()), "{key:?} {value:?}");
+        }
+    }
+    Ok(())
+}
+
+#[test]
+fn a_key_that_is_no_str_is_not_known(rt: HostRuntime) -> Result<(), Fail> {
+    let alloc = rt.alloc();
+    for key in [b"\xc4\x04size".as_slice(), b"\x91\xa4size", b"\xa5size\x00", b"\xa4siz\xff"] {
+        let record = with_pair(alloc, &[key, b"\x07"])?;
+        assert!(rt; has_required_alone(record.view()), "{key:?}");
+    }
+    Ok(())
+}
+
+#[test]
+fn a_digest_is_read_from_bytes_or_digits(rt: HostRuntime) -> Result<(), Fail> {
+    let alloc = rt.alloc();
+    let key = b"\xa3md5".as_slice();
+    let spelled: [&[u8]; 3] = [
+        b"\xc5\x00\x10\x01\x23\x45\x67\x89\xab\xcd\xef\x00\x00\x00\x00\x00\x00\x00\x0f",
+        b"\xd9\x200123456789abcdef000000000000000f",
+        b"\xdb\x00\x00\x00\x200123456789ABCDef000000000000000F",
+    ];
+    for value in spelled {
+        let record = with_pair(alloc, &[key, value])?;
+        let digest = [0x01, 0x23, 0x45, 0x67, 0x89, 0xab, 0xcd, 0xef, 0, 0, 0, 0, 0, 0, 0, 0x0f];
+        assert_eq!(rt; record.view().md5(), Some(digest), "{value:?}");
+    }
+    let missing: [&[u8]; 4] = [
+        b"\xd9\x20g123456789abcdef0000000000000000",
+        b"\xbf0123456789abcdef000000000000000",
+        b"\xd9\x210123456789abcdef00000000000000000",
+        b"\xa1x",
+    ];
+    for value in missing {
+        let record = with_pair(alloc, &[key, value])?;
+        assert_eq!(rt; record.view().md5(), None, "{value:?}");
+    }
+    Ok(())
+}
+
+#[test]
+fn answers_each_fault_with_its_place(rt: HostRuntime) {
+    for (bytes, kind, at) in FAULTS {
+        let mut cursor = Cursor::new(bytes);
+        assert!(rt; cursor.skip().is_ok(), "{bytes:?}");
+        let outcome = PackageRecord::read(rt.alloc(), &mut cursor);
+        assert_eq!(rt; in_parts(outcome), Some((kind, at)), "{bytes:?}");
+        assert_eq!(rt; cursor.at(), 1, "{bytes:?}");
+    }
+}
+
+#[test]
+fn a_record_that_breaks_off_is_short(rt: HostRuntime) {
+    for end in 0..REQUIRED.len() {
+        let bytes = REQUIRED.get(..end).unwrap_or_default();
+        let outcome = PackageRecord::read(rt.alloc(), &mut Cursor::new(bytes));
+        assert_eq!(rt; in_parts(outcome), Some((Short, end as u64)));
+    }
+}
+
+#[test]
+fn each_key_that_stands_twice_is_a_fault(rt: HostRuntime) -> Result<(), Fail> {
+    for key in OPTIONAL {
+        let mut bytes = b"\x82".to_vec(rt.alloc())?;
+        for _ in 0..2 {
+            bytes.extend_from_slice(key)?;
+            bytes.push(0xc0)?;
+        }
+        let second = key.len() as u64 + 2;
+        let outcome = PackageRecord::read(rt.alloc(), &mut Cursor::new(bytes.as_slice()));
+        assert_eq!(rt; in_parts(outcome), Some((Repeated, second)), "{key:?}");
+    }
+    Ok(())
+}
+
+#[test]
+fn a_digest_of_another_kind_may_stand_once(rt: HostRuntime) {
+    let once = b"\x84\xa4name\xa1a\xa7version\xa11\xa5build\xa10\xa3md5\xa1x";
+    let outcome = PackageRecord::read(rt.alloc(), &mut Cursor::new(once));
+    assert!(rt; outcome.is_ok_and(|record| record.view().md5().is_none()));
+    let twice = b"\x85\xa4name\xa1a\xa7version\xa11\xa5build\xa10\xa3md5\xa1x\xa3md5\xa1x";
+    let outcome = PackageRecord::read(rt.alloc(), &mut Cursor::new(twice));
+    assert_eq!(rt; in_parts(outcome), Some((Repeated, 32)));
+}
+
+#[test]
+fn a_refusal_names_its_fault(rt: HostRuntime) -> Result<(), Fail> {
+    let refusal = RecordRefusal::Fault(FormatFault { at: 7, kind: Wrong });
+    let text = format!(in rt.alloc(); "{refusal:?}")?;
+    assert_eq!(rt; text.as_str(), "Fault(FormatFault { at: 7, kind: Wrong })");
+    Ok(())
+}

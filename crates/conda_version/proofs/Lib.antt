@@ -1,0 +1,12 @@
+pub mod OrderLemmas
+pub mod CursorLemmas
+pub mod StepLemmas
+pub mod StartLemmas
+pub mod FaultLemmas
+pub mod VersionLemmas
+pub mod TokenLemmas
+pub mod ScanLemmas
+pub mod SoundLemmas
+pub mod TreeLemmas
+pub mod LevelLemmas
+pub mod FirstLemmas

@@ -1,0 +1,144 @@
+//! The operators of a leaf, and the relations that they stand for.
+
+ghost use Rattle.std.specs.Prelude.{◌≡◌, ◌≤◌, length};
+ghost use Rattle.conda_version.specs.Leaf.{is_sign, operator_of, sign_len};
+
+/// What stands before the version of a leaf.
+#[derive(Clone, Copy)]
+pub(crate) enum Operator {
+    /// Nothing.
+    None,
+    /// `=`
+    Equal,
+    /// `==`
+    Exact,
+    /// `!=`
+    NotEqual,
+    /// `<`
+    Less,
+    /// `<=`
+    AtMost,
+    /// `>`
+    Greater,
+    /// `>=`
+    AtLeast,
+    /// `~=`
+    Compatible,
+}
+
+/// How a version has to stand to the one of a leaf.
+#[derive(Clone, Copy)]
+pub(crate) enum Relation {
+    /// It equals that one.
+    Equal,
+    /// It doesn't equal that one.
+    NotEqual,
+    /// It starts with that one.
+    StartsWith,
+    /// It doesn't start with that one.
+    StartsOtherwise,
+    /// It is below that one.
+    Less,
+    /// It is that one or below it.
+    AtMost,
+    /// It is above that one.
+    Greater,
+    /// It is that one or above it.
+    AtLeast,
+}
+
+// Whether operators are made of this byte.
+fn is_sign(byte: u8) -> bool
+    ensures { result ≡ is_sign byte }
+{
+    matches!(byte, b'<' | b'=' | b'>' | b'!' | b'~')
+}
+
+// How many signs a text begins with.
+pub(crate) fn sign_len(text: &[u8]) -> usize
+    ensures value { result ≡ sign_len text.now }
+    ensures within { result ≤ length text.now }
+{
+    let mut len = 0;
+    let mut rest = text;
+    'bytes: while let [byte, tail @ ..] = rest {
+        if !is_sign(*byte) {
+            break;
+        }
+        len += 1;
+        rest = tail;
+    }
+    len
+}
+
+// The operator that a run of signs is, if it is one.
+pub(crate) fn operator_of(run: &[u8]) -> Option<Operator>
+    ensures { result ≡ operator_of run.now }
+{
+    if run.is_empty() {
+        Some(Operator::None)
+    } else if run == b"=".as_slice() {
+        Some(Operator::Equal)
+    } else if run == b"==".as_slice() {
+        Some(Operator::Exact)
+    } else if run == b"!=".as_slice() {
+        Some(Operator::NotEqual)
+    } else if run == b"<".as_slice() {
+        Some(Operator::Less)
+    } else if run == b"<=".as_slice() {
+        Some(Operator::AtMost)
+    } else if run == b">".as_slice() {
+        Some(Operator::Greater)
+    } else if run == b">=".as_slice() {
+        Some(Operator::AtLeast)
+    } else if run == b"~=".as_slice() {
+        Some(Operator::Compatible)
+    } else {
+        None
+    }
+}
+
+impl Operator {
+    ghost use Rattle.conda_version.specs.Leaf.{is_compatible, relation_of, takes_star};
+
+    // Whether `*` alone may stand behind the operator.
+    pub(crate) fn takes_star(self) -> bool
+        ensures { result ≡ takes_star self }
+    {
+        match self {
+            Operator::None | Operator::Equal | Operator::Exact => true,
+            Operator::NotEqual
+            | Operator::Less
+            | Operator::AtMost
+            | Operator::Greater
+            | Operator::AtLeast
+            | Operator::Compatible => false,
+        }
+    }
+
+    // Whether the operator is `~=`.
+    pub(crate) fn is_compatible(self) -> bool
+        ensures { result ≡ is_compatible self }
+    {
+        matches!(self, Operator::Compatible)
+    }
+
+    // What the operator asks for, with a star behind its version or without.
+    pub(crate) fn relation(self, star: bool) -> Relation
+        ensures { result ≡ relation_of self star }
+    {
+        match self {
+            Operator::None if star => Relation::StartsWith,
+            Operator::None => Relation::Equal,
+            Operator::Equal => Relation::StartsWith,
+            Operator::Exact => Relation::Equal,
+            Operator::NotEqual if star => Relation::StartsOtherwise,
+            Operator::NotEqual => Relation::NotEqual,
+            Operator::Less => Relation::Less,
+            Operator::AtMost => Relation::AtMost,
+            Operator::Greater => Relation::Greater,
+            Operator::AtLeast => Relation::AtLeast,
+            Operator::Compatible => Relation::AtLeast,
+        }
+    }
+}

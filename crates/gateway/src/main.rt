@@ -1,0 +1,33 @@
+//! The program `gateway`: makes the real source and sink, makes one call, and ends with its status.
+#![tactic(auto)]
+
+use gateway_tool::{OUT_OF_MEMORY, USAGE, run_show, status_line};
+use link_io::{StdSink, StdSource};
+use mp_codec::Text;
+use std::env;
+use std::io::{self, ErrorKind};
+use std::process::ExitCode;
+use std::rt::Env;
+
+fn main(rt: HostRuntime) -> ExitCode {
+    let mut input = StdSource::new(rt.stdin());
+    let mut out = StdSink::new(rt.stdout());
+    let status = match words(&rt) {
+        Ok(words) => run_show(rt.alloc(), words.as_slice(), &mut input, &mut out).0,
+        Err(error) if error.kind() == ErrorKind::OutOfMemory => OUT_OF_MEMORY,
+        Err(_) => USAGE,
+    };
+    if let Some(line) = status_line(status) {
+        let _ = eprintln!(rt; "{line}");
+    }
+    ExitCode::from(status)
+}
+
+// The words behind the program's name; one that isn't UTF-8 is an error.
+fn words(rt: &(impl Env + AllocGlobal)) -> io::Result<Vec<Text>> {
+    let mut words = Vec::new(rt.alloc());
+    for word in env::args(rt)?.skip(1) {
+        words.push(Text::copy(rt.alloc(), word.as_str())?)?;
+    }
+    Ok(words)
+}

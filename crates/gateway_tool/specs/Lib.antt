@@ -1,0 +1,9 @@
+pub mod Words
+pub mod Status
+pub mod Texts
+pub mod Show
+pub use Rattle.gateway_words.specs.Causes
+pub use Rattle.conda_name.specs.Name
+pub use Rattle.link_io.specs.Transfer
+pub use Rattle.mp_codec.specs.Fault
+pub use Rattle.shard_file.specs.Rows

@@ -1,0 +1,46 @@
+-- What show answers: the rows that were written, the fault of a bad file, and the status that an input leads to.
+use Rattle.std.specs.Prelude.{◌≡◌, ℕ, ◌<◌, ◌≤◌, List, [], ◌∷◌, ◌++◌, length, Option, IfSome}
+use Rattle.mp_codec.specs.declared.fault.FormatFault.{FormatFault}
+use Rattle.mp_codec.specs.Fault.{IsFirstFault}
+use Rattle.shard_file.specs.Rows.{Row, ShardOf, ShardFault}
+use Rattle.gateway_tool.specs.declared.note.Note.{Note}
+use Rattle.gateway_tool.specs.declared.note.Note.TheVariants.{Shard}
+use Rattle.gateway_tool.specs.declared.show.TheConstants.{MOST_SHARD_BYTES}
+use Rattle.gateway_tool.specs.declared.status.TheConstants.{OK, WRITE_FAULT, TOO_MUCH_INPUT, BAD_FILE}
+use Rattle.gateway_tool.specs.Status.{IsOneOf, apart_from_input}
+use Rattle.gateway_tool.specs.Texts.{show_text}
+
+-- these bytes are all that a source had left, where it told them
+abbrev pub IsWhole : Option (List ℕ) → List ℕ → Type 0
+IsWhole left bytes = IfSome left (λ all. bytes ≡ all)
+
+-- the whole input is a shard, and what was written is right for the text of its rows of this name
+pub record Shows (left : Option (List ℕ)) (IsWritten : List ℕ → Type 0) (name : List ℕ) : Type 0 where
+  pub bytes : List ℕ
+  pub rows : List Row
+  pub whole : IsWhole left bytes
+  pub shard : ShardOf bytes rows
+  pub written : IsWritten (show_text name rows)
+
+-- the whole input is no shard, and the note has the first fault that stands in it
+pub record IsRefused (left : Option (List ℕ)) (note : Note) : Type 0 where
+  pub bytes : List ℕ
+  pub fault : FormatFault
+  pub whole : IsWhole left bytes
+  pub first : IsFirstFault (ShardFault bytes) fault
+  pub noted : note ≡ Shard fault
+
+-- the input has more bytes than a shard may have
+abbrev pub IsTooLong : List ℕ → Type 0
+IsTooLong input = MOST_SHARD_BYTES < length input
+
+-- the status that an input leads to, where nothing comes from apart
+pub record LeadsTo (input : List ℕ) (status : ℕ) : Type 0 where
+  -- an input that is too long is refused for that
+  pub too_long : IsTooLong input → IsOneOf (TOO_MUCH_INPUT ∷ apart_from_input) status
+  -- a shard is shown, unless a write fails
+  pub shard : (rows : List Row) → length input ≤ MOST_SHARD_BYTES → ShardOf input rows
+      → IsOneOf (OK ∷ WRITE_FAULT ∷ apart_from_input) status
+  -- an input in which a fault stands is a bad file
+  pub no_shard : (f : FormatFault) → length input ≤ MOST_SHARD_BYTES → ShardFault input f
+      → IsOneOf (BAD_FILE ∷ apart_from_input) status

@@ -1,0 +1,85 @@
+//! The command `show`: the records of one name from one shard.
+ghost use Rattle.std.specs.Prelude.{◌≡◌, ◌≢◌, ◌+◌, ◌∷◌, [], None, IfSome, IsSomeAnd};
+ghost use Rattle.std.specs.Io.KnownBytes.{append_known};
+ghost use Rattle.link_io.specs.Transfer.{LosesAtMost, AppendsPart};
+ghost use Rattle.gateway_tool.specs.Words.{shown_name};
+ghost use Rattle.gateway_tool.specs.Status.{IsOneOf, RefusesWords, HasStatusCause};
+ghost use Rattle.gateway_tool.specs.Show.{Shows, IsRefused, IsTooLong, LeadsTo};
+
+use crate::Note;
+use crate::status::{BAD_FILE, OK, OUT_OF_MEMORY, READ_FAULT, TOO_MUCH_INPUT, USAGE, WRITE_FAULT};
+use crate::texts::show_text;
+use crate::words::{WordsRefusal, shown_name};
+use link_io::{ReadRefusal, Sink, Source, read_to_end, write_all};
+use mp_codec::Text;
+use shard_file::{Shard, ShardRefusal};
+use std::alloc::Global;
+
+/// The most bytes of a shard that is read.
+pub const MOST_SHARD_BYTES: usize = 33_554_432;
+
+/// Prints the records of one package from the shard that the input is, by the words `show` and a
+/// package name. The answer is the status, and the fault of an input that is no shard.
+///
+/// `USAGE` where the words are others: nothing was read. `READ_FAULT` or `TOO_MUCH_INPUT`,
+/// whichever is met first in reading. `BAD_FILE` where the input is no shard. `WRITE_FAULT` where
+/// a write failed: a part of the text was written, and with every other refusal none of it.
+/// `OUT_OF_MEMORY` may come at any place before the first write.
+/// (`docs/FORMATS.md`, "Words of show", "Printed lines of show" and "Statuses".)
+pub fn run_show<I: Source, O: Sink>(
+    alloc: Global,
+    words: &[Text],
+    input: &mut I,
+    out: &mut O,
+) -> (u8, Note)
+    // The words. Where they are wrong, and memory lasts, the status is 2.
+    ensures usage { result.0 ≡ USAGE → shown_name words.now ≡ None }
+    ensures wrong_words { shown_name words.now ≡ None
+        → RefusesWords result.0 input.old input.new out.old out.new }
+
+    // What was written: the text of the matching rows, with status 4 a part of it, else nothing.
+    ensures answered { result.0 ≡ OK → IsSomeAnd (shown_name words.now) (Shows
+        (I.left input.old) (λ text. O.written out.new ≡ append_known (O.written out.old) text)) }
+    ensures part { result.0 ≡ WRITE_FAULT → IsSomeAnd (shown_name words.now) (Shows
+        (I.left input.old) (AppendsPart (O.written out.old) (O.written out.new))) }
+    ensures silent { result.0 ≢ OK → result.0 ≢ WRITE_FAULT
+        → O.written out.new ≡ O.written out.old }
+
+    // What a told input leads to.
+    ensures bad_file { result.0 ≡ BAD_FILE → IsRefused (I.left input.old) result.1 }
+    ensures noted { result.0 ≢ BAD_FILE → result.1 ≡ Note.Nothing }
+    ensures too_much { result.0 ≡ TOO_MUCH_INPUT → IfSome (I.left input.old) IsTooLong }
+    ensures leads { IfSome (I.left input.old) (λ bytes. LeadsTo bytes result.0) }
+
+    ensures read_fault { HasStatusCause READ_FAULT
+        (I.faults input.old) (I.faults input.new) result.0 }
+    ensures write_fault { HasStatusCause WRITE_FAULT
+        (O.faults out.old) (O.faults out.new) result.0 }
+    ensures stops { LosesAtMost (MOST_SHARD_BYTES + 1) (I.left input.old) (I.left input.new) }
+    ensures statuses { IsOneOf (OK ∷ USAGE ∷ READ_FAULT ∷ WRITE_FAULT ∷ OUT_OF_MEMORY
+        ∷ TOO_MUCH_INPUT ∷ BAD_FILE ∷ []) result.0 }
+{
+    let name = match shown_name(alloc, words) {
+        Ok(name) => name,
+        Err(WordsRefusal::Usage) => return (USAGE, Note::Nothing),
+        Err(WordsRefusal::Memory) => return (OUT_OF_MEMORY, Note::Nothing),
+    };
+    let bytes = match read_to_end(alloc, input, MOST_SHARD_BYTES) {
+        Ok(bytes) => bytes,
+        Err(ReadRefusal::Failed) => return (READ_FAULT, Note::Nothing),
+        Err(ReadRefusal::TooMuch) => return (TOO_MUCH_INPUT, Note::Nothing),
+        Err(ReadRefusal::Memory) => return (OUT_OF_MEMORY, Note::Nothing),
+    };
+    let shard = match Shard::read(alloc, bytes) {
+        Ok(shard) => shard,
+        Err(ShardRefusal::Fault(fault, _)) => return (BAD_FILE, Note::Shard(fault)),
+        Err(ShardRefusal::Memory(_)) => return (OUT_OF_MEMORY, Note::Nothing),
+    };
+    let Ok(text) = show_text(alloc, &name, &shard) else {
+        return (OUT_OF_MEMORY, Note::Nothing);
+    };
+    match write_all(out, text.as_slice()) {
+        Ok(()) => (OK, Note::Nothing),
+        Err(_) => (WRITE_FAULT, Note::Nothing),
+    }
+}

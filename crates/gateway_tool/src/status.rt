@@ -1,0 +1,41 @@
+//! The statuses with which the program ends.
+ghost use Rattle.std.specs.Prelude.{◌≡◌};
+ghost use Rattle.std.specs.Option.{option_copied};
+ghost use Rattle.gateway_tool.specs.Status.{line_of};
+
+/// The input was read to its end, and all was written.
+pub const OK: u8 = 0;
+
+/// The words are not those of a command.
+pub const USAGE: u8 = 2;
+
+/// A read of the input failed.
+pub const READ_FAULT: u8 = 3;
+
+/// A write of the output failed; a part of it may have been written.
+pub const WRITE_FAULT: u8 = 4;
+
+/// Memory ran out.
+pub const OUT_OF_MEMORY: u8 = 5;
+
+/// The input has more bytes than its limit.
+pub const TOO_MUCH_INPUT: u8 = 6;
+
+/// The input is no shard.
+pub const BAD_FILE: u8 = 8;
+
+/// The line that is printed on standard error for a status, without its newline. `OK` has none,
+/// and no number that isn't a status.
+pub fn status_line(status: u8) -> Option<&'static str>
+    ensures { option_copied result ≡ line_of status }
+{
+    match status {
+        USAGE => Some("gateway: usage"),
+        READ_FAULT => Some("gateway: read fault"),
+        WRITE_FAULT => Some("gateway: write fault"),
+        OUT_OF_MEMORY => Some("gateway: out of memory"),
+        TOO_MUCH_INPUT => Some("gateway: too much input"),
+        BAD_FILE => Some("gateway: bad file"),
+        _ => None,
+    }
+}

@@ -1,0 +1,66 @@
+-- The loop over the files of a map: what is left to read, step by step.
+use Rattle.std.proofs.Common.{◌≡◌, refl, sym, ◌∙◌, ap, ℕ, zero, suc, ◌+◌, ◌-◌, ◌<◌, ◌≤◌, Bool, true, false, cond, ◌||◌, List, [], ◌∷◌, ◌++◌}
+use Rattle.std.specs.Prelude.{Result, Ok, Err}
+use Rattle.std.specs.List.{list_any}
+use Rattle.std.specs.Str.{bytes_eq}
+use Rattle.std.proofs.lemmas.List.Folds.{list_any-append}
+use Rattle.gateway_words.specs.Places.{Position}
+use Rattle.gateway_words.specs.Reading.{◌>>=◌}
+use Rattle.mp_codec.specs.declared.fault.FormatFault.{FormatFault}
+use Rattle.mp_codec.specs.declared.fault.FaultKind.TheVariants as kind
+use Rattle.mp_codec.specs.Fault.{fault_here}
+use Rattle.mp_codec.specs.Maps.{Read, text_from}
+use Rattle.mp_codec.proofs.BindLemmas.{bind_ok, bind_err}
+use Rattle.mp_codec.proofs.EntryLemmas.{goes_on, key_stops, value_stops, is_done}
+use Rattle.conda_record.specs.Record.{Fields}
+use Rattle.conda_record.specs.Reading.{record_from}
+use Rattle.shard_file.specs.Rows.{Row}
+use Rattle.shard_file.specs.Names.{new_name_from}
+use Rattle.shard_file.specs.Reading.{has_file, file_key_from, file_value_from, file_end_from, files_after}
+
+-- tests that agree give the same reading of a name
+same_met : (f g : List ℕ → Bool) (here : Position) → ((q : List ℕ) → f q ≡ g q) → new_name_from f here ≡ new_name_from g here
+unfolding new_name_from
+same_met f g here same = go (text_from here)
+  where
+    go : (r : Read (List ℕ)) → (r >>= λ t. cond {A = Read (List ℕ)} (f t.0) (Err (fault_here kind.Repeated here)) (Ok (t.0, t.1)))
+        ≡ (r >>= λ t. cond {A = Read (List ℕ)} (g t.0) (Err (fault_here kind.Repeated here)) (Ok (t.0, t.1)))
+    go (Ok t) = ap (λ (b : Bool). cond {A = Read (List ℕ)} b (Err (fault_here kind.Repeated here)) (Ok (t.0, t.1))) (same t.0)
+    go (Err e) = refl
+
+-- the row of a file
+abbrev pub file_row : Bool → List ℕ → Fields → Row
+file_row conda name fields = record { file = name; conda = conda; fields = fields }
+
+module _ (conda : Bool) (met : List ℕ → Bool) (rows : List Row) (known : (q : List ℕ) → met q ≡ has_file q rows) where
+  pub file_goes_on : (n i : ℕ) (name : List ℕ) (fields : Fields) (here mid there : Position) → i < n → new_name_from met here ≡ Ok (name, mid) → record_from mid ≡ Ok (fields, there)
+      → files_after conda (n - i) rows here ≡ files_after conda (n - (i + 1)) (rows ++ file_row conda name fields ∷ []) there
+  unfolding file_value_from
+  file_goes_on n i name fields here mid there lt at_name at_record =
+      goes_on file_key_from (file_value_from conda) file_end_from n i rows (rows ++ file_row conda name fields ∷ []) name here mid there lt
+      (sym (same_met met (λ q. has_file q rows) here known) ∙ at_name)
+      (bind_ok (record_from mid) (λ r. Ok (rows ++ file_row conda name r.0 ∷ [], r.1)) (fields, there) at_record)
+
+  pub name_stops : (n i : ℕ) (f : FormatFault) (here : Position) → i < n → new_name_from met here ≡ Err f → files_after conda (n - i) rows here ≡ Err f
+  name_stops n i f here lt at_name = key_stops file_key_from (file_value_from conda) file_end_from n i rows f here lt (sym (same_met met (λ q. has_file q rows) here known) ∙ at_name)
+
+  pub record_stops : (n i : ℕ) (name : List ℕ) (f : FormatFault) (here mid : Position) → i < n → new_name_from met here ≡ Ok (name, mid) → record_from mid ≡ Err f
+      → files_after conda (n - i) rows here ≡ Err f
+  unfolding file_value_from
+  record_stops n i name f here mid lt at_name at_record =
+      value_stops file_key_from (file_value_from conda) file_end_from n i rows name f here mid lt
+      (sym (same_met met (λ q. has_file q rows) here known) ∙ at_name)
+      (bind_err (record_from mid) (λ r. Ok (rows ++ file_row conda name r.0 ∷ [], r.1)) f at_record)
+
+pub files_done : (conda : Bool) (n i : ℕ) (rows : List Row) (here : Position) → n ≤ i → files_after conda (n - i) rows here ≡ Ok (rows, here)
+files_done conda n i rows here le = is_done file_key_from (file_value_from conda) file_end_from n i rows here le
+
+-- a name was met where it is that of the row that was added, or was met before
+pub has_file_more : (rows : List Row) (row : Row) (met : Bool) (q : List ℕ) → met ≡ has_file q rows → (bytes_eq row.file q || met) ≡ has_file q (rows ++ row ∷ [])
+has_file_more rows row met q e = ap (λ (b : Bool). bytes_eq row.file q || b) e ∙ swap (bytes_eq row.file q) (has_file q rows) ∙ sym (list_any-append (λ r. bytes_eq r.file q) rows (row ∷ []))
+  where
+    swap : (a b : Bool) → (a || b) ≡ (b || (a || false))
+    swap true true = refl
+    swap true false = refl
+    swap false true = refl
+    swap false false = refl

@@ -1,0 +1,5 @@
+pub mod NameLemmas
+pub mod SortLemmas
+pub mod FileLoop
+pub mod FileLemmas
+pub mod ShardLemmas

@@ -1,0 +1,40 @@
+-- What was read so far of a shard, by the places of its keys.
+use Rattle.std.specs.Prelude.{◌≡◌, ℕ, Bool, true, false, List, [], ◌∷◌, Option, Some, None, Result, Ok, Err, IfSome}
+use Rattle.std.specs.declared.alloc.Global.{Global}
+use Rattle.std.specs.declared.vec.Vec.{Vec}
+use Rattle.shard_file.specs.declared.reading.Key.{Key}
+use Rattle.shard_file.specs.declared.reading.Key.TheVariants as key
+use Rattle.shard_file.specs.declared.reading.Found.{Found}
+use Rattle.std.specs.List.Sorted.{IsSortedBy, IsStableBy}
+use Rattle.mp_codec.specs.declared.fault.FormatFault.{FormatFault}
+use Rattle.conda_record.specs.declared.refusal.RecordRefusal.{RecordRefusal}
+use Rattle.conda_record.specs.Reading.{fault_of}
+use Rattle.shard_file.specs.Rows.{Row, file_lt}
+
+-- the place of a key among the known ones, or their number
+abbrev pub place : Key → ℕ
+place key.Packages = 0
+place key.Conda = 1
+place key.Removed = 2
+place key.Other = 3
+
+-- the rows of a map of files that was read
+abbrev pub rows_read : Option (Vec Row Global) → Option (List Row)
+rows_read (Some rows) = Some rows.items
+rows_read None = None
+
+-- a value that was skipped has no rows
+abbrev pub skipped_read : Bool → Option (List Row)
+skipped_read true = Some []
+skipped_read false = None
+
+-- what was found, by the places of the keys
+abbrev pub known : Found → List (Option (List Row))
+known found = rows_read found.packages ∷ rows_read found.conda ∷ skipped_read found.removed ∷ []
+
+-- ---- what was read of all the bytes
+
+-- rows that were read, in the order of their file names, or the fault of the reading, unless memory ran out
+abbrev pub SortsRows : Result (Vec Row Global) RecordRefusal → Result (List Row) FormatFault → Type 0
+SortsRows (Ok rows) reading = (stood : List Row) × (reading ≡ Ok stood) × IsSortedBy file_lt rows.items × IsStableBy file_lt stood rows.items
+SortsRows (Err e) reading = IfSome (fault_of e) (λ f. reading ≡ Err f)

@@ -1,0 +1,74 @@
+//! Reading a map of files, each once.
+
+ghost use Rattle.std.specs.Prelude.{◌≡◌, ◌||◌, IfOk, [], List, ℕ};
+ghost use Rattle.std.specs.Str.{bytes_eq};
+ghost use Rattle.gateway_words.specs.Reading.{Gives};
+ghost use Rattle.conda_record.specs.Reading.{fault_of};
+ghost use Rattle.shard_file.specs.Names.{has_name, new_name_from};
+ghost use Rattle.shard_file.specs.Reading.{files_after, files_from};
+
+use crate::names;
+use crate::shard::FileRow;
+use conda_record::{PackageRecord, RecordRefusal};
+use mp_codec::{Cursor, FaultKind, FormatFault, Text};
+use std::alloc::Global;
+use std::collections::BTreeSet;
+
+// The rows of the map of files that stands at the cursor.
+#[tactic(auto, unfolding(mp_codec::specs::Maps::map_from, crate::specs::Reading::files_from))]
+pub(crate) fn files(
+    alloc: Global,
+    cur: &mut Cursor<'_>,
+    conda: bool,
+) -> Result<Vec<FileRow>, RecordRefusal>
+    ensures { Gives (λ rows. (rows.items, cur.new)) fault_of result (files_from conda cur.old) }
+{
+    let files = cur.map_len()?;
+    rows_of_files(alloc, cur, conda, files)
+}
+
+// The rows of so many files.
+fn rows_of_files(
+    alloc: Global,
+    cur: &mut Cursor<'_>,
+    conda: bool,
+    files: u32,
+) -> Result<Vec<FileRow>, RecordRefusal>
+    ensures { Gives (λ rows. (rows.items, cur.new)) fault_of result
+        (files_after conda files [] cur.old) }
+{
+    let mut rows = Vec::new(alloc);
+    let mut names = BTreeSet::new(alloc);
+    for _ in 0..files {
+        let name = new_name(cur, &mut names)?;
+        let row = FileRow {
+            file: Text::copy(alloc, name)?,
+            conda,
+            record: PackageRecord::read(alloc, cur)?,
+        };
+        rows.push(row)?;
+    }
+    Ok(rows)
+}
+
+// The text that stands at the cursor, which is none of the names so far.
+#[tactic(auto, unfolding(crate::specs::Names::new_name_from))]
+fn new_name<'a>(
+    cur: &mut Cursor<'a>,
+    names: &mut BTreeSet<&'a str>,
+) -> Result<&'a str, RecordRefusal>
+    ensures exact { Gives (λ name. (name.now, cur.new)) fault_of result
+        (new_name_from (has_name names.old) cur.old) }
+    ensures more { IfOk result (λ name. (q : List ℕ) → has_name names.new q
+        ≡ (bytes_eq name.now q || has_name names.old q)) }
+{
+    let at = cur.at();
+    let name = cur.text()?;
+    if !names::add(names, name)? {
+        return Err(RecordRefusal::Fault(FormatFault {
+            at: at as u64,
+            kind: FaultKind::Repeated,
+        }));
+    }
+    Ok(name)
+}

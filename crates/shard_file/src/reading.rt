@@ -1,0 +1,189 @@
+//! Reading a shard, key by key.
+
+ghost use Rattle.std.specs.Prelude.{◌≡◌, Some, None, is_some, slice_index_or, OnOk, OnErr, IfOk};
+ghost use Rattle.std.specs.List.Sorted.{IsSortedBy, IsStableBy};
+ghost use Rattle.gateway_words.specs.Reading.{Gives};
+ghost use Rattle.mp_codec.specs.Reading.{Advances};
+ghost use Rattle.mp_codec.specs.Maps.{bytes_behind, place_of, unread, known_key_from, known_value_from};
+ghost use Rattle.conda_record.specs.Reading.{fault_of};
+ghost use Rattle.shard_file.specs.Rows.{shard_keys, file_lt};
+ghost use Rattle.shard_file.specs.Found.{place, known, SortsRows};
+ghost use Rattle.shard_file.specs.Reading.{member_from, shard_end_from, pairs_from, shard_from, rows_from};
+
+use crate::files::files;
+use crate::shard::FileRow;
+use conda_record::RecordRefusal;
+use mp_codec::{Cursor, FaultKind, FormatFault};
+use std::alloc::{AllocError, Global};
+
+// A key of a shard.
+#[derive(Clone, Copy)]
+enum Key {
+    Packages,
+    Conda,
+    Removed,
+    // A key that isn't known.
+    Other,
+}
+
+// What was read so far: the rows behind each of the two keys that hold files, and whether `removed`
+// was met.
+#[derive(Drop)]
+struct Found {
+    packages: Option<Vec<FileRow>>,
+    conda: Option<Vec<FileRow>>,
+    removed: bool,
+}
+
+// The known key with these bytes.
+fn key_of(key: Option<&[u8]>) -> Key
+    ensures { place result ≡ place_of shard_keys (bytes_behind key.entry) }
+{
+    let Some(bytes) = key else {
+        return Key::Other;
+    };
+    if bytes == b"packages".as_slice() {
+        Key::Packages
+    } else if bytes == b"packages.conda".as_slice() {
+        Key::Conda
+    } else if bytes == b"removed".as_slice() {
+        Key::Removed
+    } else {
+        Key::Other
+    }
+}
+
+impl Found {
+    // Nothing was read.
+    fn new() -> Found
+        ensures { known result ≡ unread shard_keys }
+    {
+        Found {
+            packages: None,
+            conda: None,
+            removed: false,
+        }
+    }
+
+    // Whether this key was read.
+    fn has(&self, key: Key) -> bool
+        ensures { result ≡ is_some (slice_index_or (known self.now) (place key) None) }
+    {
+        match key {
+            Key::Packages => self.packages.is_some(),
+            Key::Conda => self.conda.is_some(),
+            Key::Removed => self.removed,
+            Key::Other => false,
+        }
+    }
+
+    // Reads the value of a key that was not read before.
+    #[tactic(auto, unfolding(mp_codec::specs::Maps::known_value_from))]
+    fn read_value(
+        &mut self,
+        alloc: Global,
+        cur: &mut Cursor<'_>,
+        key: Key,
+    ) -> Result<(), RecordRefusal>
+        ensures { Gives (λ _. (known self.new, cur.new)) fault_of result
+            (known_value_from shard_keys member_from (known self.old) (place key) cur.old) }
+    {
+        match key {
+            Key::Packages => self.packages = Some(files(alloc, cur, false)?),
+            Key::Conda => self.conda = Some(files(alloc, cur, true)?),
+            Key::Removed => {
+                cur.skip()?;
+                self.removed = true;
+            }
+            Key::Other => cur.skip()?,
+        }
+        Ok(())
+    }
+
+    // All rows, those of packages first.
+    #[tactic(auto, unfolding(mp_codec::specs::Maps::known_end_from, crate::specs::Reading::shard_end_from))]
+    fn finish(self, alloc: Global, cur: &Cursor<'_>) -> Result<Vec<FileRow>, RecordRefusal>
+        ensures { Gives (λ rows. (rows.items, cur.now)) fault_of result
+            (shard_end_from (known self) cur.now) }
+    {
+        let mut rows = self.packages.unwrap_or(Vec::new(alloc));
+        let mut conda = self.conda.unwrap_or(Vec::new(alloc));
+        rows.append(&mut conda)?;
+        Ok(rows)
+    }
+}
+
+// The key that stands at the cursor, which was not read before if it is known.
+#[tactic(auto, unfolding(mp_codec::specs::Maps::known_key_from))]
+fn next_key(cur: &mut Cursor<'_>, found: &Found) -> Result<Key, FormatFault>
+    ensures { Advances place cur.new result (known_key_from shard_keys (known found.now) cur.old) }
+{
+    let at = cur.at();
+    let key = key_of(cur.str_or_skip()?);
+    if found.has(key) {
+        return Err(FormatFault {
+            at: at as u64,
+            kind: FaultKind::Repeated,
+        });
+    }
+    Ok(key)
+}
+
+// So many pairs of a shard, and its end.
+fn pairs_of_shard(
+    alloc: Global,
+    cur: &mut Cursor<'_>,
+    pairs: u32,
+) -> Result<Vec<FileRow>, RecordRefusal>
+    ensures { Gives (λ rows. (rows.items, cur.new)) fault_of result
+        (pairs_from pairs (unread shard_keys) cur.old) }
+{
+    let mut found = Found::new();
+    for _ in 0..pairs {
+        let key = next_key(cur, &found)?;
+        found.read_value(alloc, cur, key)?;
+    }
+    Ok(found.finish(alloc, cur)?)
+}
+
+// The rows of the shard that stands at the cursor.
+#[tactic(auto, unfolding(mp_codec::specs::Maps::map_from, crate::specs::Reading::shard_from))]
+fn shard_here(alloc: Global, cur: &mut Cursor<'_>) -> Result<Vec<FileRow>, RecordRefusal>
+    ensures { Gives (λ rows. (rows.items, cur.new)) fault_of result (shard_from cur.old) }
+{
+    let pairs = cur.map_len()?;
+    pairs_of_shard(alloc, cur, pairs)
+}
+
+// The rows of the shard that some bytes are, in the order of their file names.
+pub(crate) fn sorted_rows(alloc: Global, bytes: &[u8]) -> Result<Vec<FileRow>, RecordRefusal>
+    ensures { SortsRows result (rows_from bytes.now) }
+{
+    let mut rows = rows(alloc, bytes)?;
+    sort(&mut rows)?;
+    Ok(rows)
+}
+
+// The rows of the shard that some bytes are, in the order in which they stand.
+#[tactic(auto, unfolding(mp_codec::specs::Maps::all_from, crate::specs::Reading::rows_from))]
+fn rows(alloc: Global, bytes: &[u8]) -> Result<Vec<FileRow>, RecordRefusal>
+    ensures { Gives (λ rows. rows.items) fault_of result (rows_from bytes.now) }
+{
+    let mut cur = Cursor::new(bytes);
+    let rows = shard_here(alloc, &mut cur)?;
+    if !cur.is_end() {
+        return Err(RecordRefusal::Fault(FormatFault {
+            at: cur.at() as u64,
+            kind: FaultKind::Trailing,
+        }));
+    }
+    Ok(rows)
+}
+
+// Puts rows in the order of their file names; rows of one name stay as they stood.
+fn sort(rows: &mut Vec<FileRow>) -> Result<(), AllocError>
+    ensures ascending { OnOk result (IsSortedBy file_lt rows.new.items) }
+    ensures in_order { IsStableBy file_lt rows.old.items rows.new.items }
+{
+    rows.sort_by(|a, b| a.file.as_str().cmp(b.file.as_str()))
+}

@@ -1,0 +1,125 @@
+//! A shard.
+
+use crate::reading::sorted_rows;
+use crate::refusal::ShardRefusal;
+use conda_record::{PackageRecord, RecordRefusal, RecordView};
+use mp_codec::Text;
+use std::alloc::Global;
+use std::marker::Model;
+
+// A file with its record.
+#[derive(Debug, Drop)]
+pub(crate) struct FileRow {
+    pub(crate) file: Text,
+    pub(crate) conda: bool,
+    pub(crate) record: PackageRecord,
+}
+
+impl Model for FileRow {
+    ghost use Rattle.shard_file.specs.Rows.{Row};
+
+    ghost Value = { Row };
+
+    ghost view = { λ row. record { file = row.file; conda = row.conda; fields = row.record } };
+}
+
+/// A row of a shard, to look at: a file and its record.
+#[derive(Clone, Copy)]
+pub struct ShardRow<'a> {
+    /// The name of the package file.
+    pub file: &'a str,
+    /// Whether it stands in `packages.conda`, and not in `packages`.
+    pub conda: bool,
+    /// What its record says.
+    pub view: RecordView<'a>,
+}
+
+/// The rows of some bytes, with the bytes. Contracts see both.
+#[derive(Debug, Drop)]
+pub struct Shard {
+    bytes: Vec<u8>,
+    rows: Vec<FileRow>,
+}
+
+impl Model for Shard {
+    ghost use Rattle.shard_file.specs.Rows.{Contents};
+
+    ghost Value = { Contents };
+
+    ghost view = { λ shard. record { bytes = shard.bytes.items; rows = shard.rows.items } };
+}
+
+impl Shard {
+    ghost use Rattle.std.specs.Prelude.{◌≡◌, length, slice_get, List, None, IfOk, IfErr, IfSome, MatchResult};
+    ghost use Rattle.std.specs.Option.{option_map};
+    ghost use Rattle.mp_codec.specs.Fault.{IsFirstFault};
+    ghost use Rattle.shard_file.specs.Rows.{Row, ShardOf, ShardFault};
+    ghost use Rattle.shard_file.specs.Seen.{row_seen, fault_of, bytes_back};
+
+    /// The shard that the bytes spell, all of the bytes.
+    ///
+    /// `Fault` with the first fault that stands in the bytes: a value that breaks off, a part of
+    /// another kind, a file name or a required text that is no text, a required key that is missing,
+    /// a known key or a file name that stands twice, bytes behind the shard. `Memory` where memory
+    /// runs out. Each hands the bytes back.
+    /// (CEP 16, "shards"; `docs/FORMATS.md`, "Shards".)
+    pub fn read(alloc: Global, bytes: Vec<u8>) -> Result<Shard, ShardRefusal>
+        // What is read is spelled by the bytes, and nothing is wrong with them.
+        ensures found { IfOk result (λ shard. ShardOf bytes.items shard.rows) }
+        // What is spelled with nothing wrong is read, unless memory runs out.
+        ensures only { (rows : List Row) → ShardOf bytes.items rows
+            → MatchResult result (λ shard. shard.rows ≡ rows) (λ e. fault_of e ≡ None) }
+        // A fault is the first one.
+        ensures fault { IfErr result (λ e.
+            IfSome (fault_of e) (IsFirstFault (ShardFault bytes.items))) }
+
+        ensures back { MatchResult result (λ shard. shard.bytes ≡ bytes.items)
+            (λ e. bytes_back e ≡ bytes.items) }
+    {
+        match sorted_rows(alloc, bytes.as_slice()) {
+            Ok(rows) => Ok(Shard { bytes, rows }),
+            Err(RecordRefusal::Fault(fault)) => Err(ShardRefusal::Fault(fault, bytes)),
+            Err(RecordRefusal::Memory) => Err(ShardRefusal::Memory(bytes)),
+        }
+    }
+
+    /// How many rows the shard has.
+    pub fn len(&self) -> usize
+        ensures { result ≡ length self.now.rows }
+    {
+        self.rows.len()
+    }
+
+    /// The row at a place, counted from 0, or None where the place is not below `len`.
+    pub fn row(&self, i: usize) -> Option<ShardRow<'_>>
+        ensures { option_map row_seen result ≡ slice_get self.now.rows i }
+    {
+        match self.rows.get(i) {
+            Some(row) => Some(row.shown()),
+            None => None,
+        }
+    }
+
+    /// The bytes that spell the shard.
+    pub fn bytes(&self) -> &[u8]
+        ensures { result.now ≡ self.now.bytes }
+    {
+        self.bytes.as_slice()
+    }
+}
+
+impl FileRow {
+    ghost use Rattle.std.specs.Prelude.{◌≡◌};
+    ghost use Rattle.shard_file.specs.Seen.{row_seen};
+
+    // The row, to look at.
+    fn shown(&self) -> ShardRow<'_>
+        ensures { row_seen result ≡ self.now }
+    {
+        ShardRow {
+            file: self.file.as_str(),
+            conda: self.conda,
+            view: self.record.view(),
+        }
+    }
+}

@@ -1,0 +1,219 @@
+//! Shards worked out by hand: their order, what is skipped in them, and each fault with its place.
+
+use crate::refusal::ShardRefusal;
+use crate::shard::Shard;
+use mp_codec::FaultKind::{
+    self, Missing, NotText, Repeated, Reserved, Short, Trailing, Wrong,
+};
+use std::alloc::Global;
+use std::test::Fail;
+
+// The record with the name a, the version 1 and the build 0, and the same of the name b.
+const A: &[u8] = b"\x83\xa4name\xa1a\xa7version\xa11\xa5build\xa10";
+
+const B: &[u8] = b"\x83\xa4name\xa1b\xa7version\xa11\xa5build\xa10";
+
+// A shard without files, with its three keys.
+const EMPTY: &[u8] = b"\x83\xa8packages\x80\xaepackages.conda\x80\xa7removed\x90";
+
+// A shard with one file.
+const ONE_FILE: &[u8] = b"\x81\xaepackages.conda\x81\xaba-1-0.conda\
+    \x83\xa4name\xa1a\xa7version\xa11\xa5build\xa10";
+
+// A shard, the kind of its first fault, and the place.
+const FAULTS: [(&[u8], FaultKind, u64); 38] = [
+    // The bytes end within the head, a key, a value, or in front of a pair.
+    (b"", Short, 0),
+    (b"\xdf\x00\x00", Short, 3),
+    (b"\x83\xa8pac", Short, 5),
+    (b"\x81", Short, 1),
+    (b"\x81\xa8packages", Short, 10),
+    (b"\x81\xa8packages\xde\x00", Short, 12),
+    (b"\x81\xa8packages\x81\xa5a.co", Short, 16),
+    (b"\x81\xa8packages\x81\xa1a", Short, 13),
+    (b"\x81\xa8packages\x81\xa1a\x81\xa4na", Short, 17),
+    (b"\x81\xa7removed\x91", Short, 10),
+    (b"\x81\xa1x\xc6\xff\xff\xff\xff\x00", Short, 9),
+    // More pairs are claimed than there are bytes.
+    (
+        b"\xdf\xff\xff\xff\xff\x00\x00\x00\x00\x00\x00\x00\x00\x00\x00\x00\x00\x00\x00\x00",
+        Short,
+        20,
+    ),
+    // The byte that is never used.
+    (b"\xc1", Reserved, 0),
+    (b"\x81\xc1\x80", Reserved, 1),
+    (b"\x81\xa1x\xc1", Reserved, 3),
+    (b"\x81\xa8packages\xc1", Reserved, 10),
+    (b"\x81\xa8packages\x81\xc1\x80", Reserved, 11),
+    (b"\x81\xa8packages\x81\xa1a\xc1", Reserved, 13),
+    (b"\x81\xa7removed\x91\x91\xc1", Reserved, 11),
+    // File names and required texts that are no UTF-8.
+    (b"\x81\xa8packages\x81\xa1\xff\x80", NotText, 11),
+    (b"\x81\xaepackages.conda\x81\xa1a\x81\xa4name\xa1\xff", NotText, 25),
+    // Values of other kinds: the shard, a map of files, a file name, a record, a required text.
+    (b"\x90", Wrong, 0),
+    (b"\xa0", Wrong, 0),
+    (b"\x81\xa8packages\x90", Wrong, 10),
+    (b"\x81\xaepackages.conda\xc0", Wrong, 16),
+    (b"\x81\xa8packages\x81\x01\x80", Wrong, 11),
+    (b"\x81\xa8packages\x81\xc4\x01a\x80", Wrong, 11),
+    (b"\x81\xa8packages\x81\xa1a\xa1a", Wrong, 13),
+    (b"\x81\xa8packages\x81\xa1a\x81\xa5build\x00", Wrong, 20),
+    // A record without a required key: the place is behind the record.
+    (b"\x81\xaepackages.conda\x81\xa1a\x80", Missing, 20),
+    // There the missing key comes before the byte that stands at the same place.
+    (b"\x82\xaepackages.conda\x81\xa1a\x80\xc1\x80", Missing, 20),
+    // Known keys and file names that stand twice.
+    (b"\x82\xa8packages\x80\xa8packages\x80", Repeated, 11),
+    (b"\x82\xa7removed\xc0\xd9\x07removed\xc1", Repeated, 10),
+    (
+        b"\x81\xa8packages\x82\
+        \xa1a\x83\xa4name\xa1a\xa7version\xa11\xa5build\xa10\xda\x00\x01a\xc0",
+        Repeated,
+        39,
+    ),
+    // Bytes behind the shard, whatever they are.
+    (b"\x80\x00", Trailing, 1),
+    (b"\x80\xc1", Trailing, 1),
+    (b"\x81\xa7removed\x90\xa8packages\x80", Trailing, 10),
+    (b"\x81\xa1x\x90\x80", Trailing, 4),
+];
+
+// What is wrong, and where.
+fn in_parts(outcome: Result<Shard, ShardRefusal>) -> Option<(FaultKind, u64)> {
+    match outcome {
+        Err(ShardRefusal::Fault(fault, _)) => Some((fault.kind, fault.at)),
+        Ok(_) | Err(ShardRefusal::Memory(_)) => None,
+    }
+}
+
+fn read(alloc: Global, parts: &[&[u8]]) -> Result<Shard, Fail> {
+    let mut bytes = Vec::new(alloc);
+    for part in parts {
+        bytes.extend_from_slice(part)?;
+    }
+    match Shard::read(alloc, bytes) {
+        Ok(shard) => Ok(shard),
+        Err(refusal) => Err(refusal.into()),
+    }
+}
+
+// Whether the rows are these: the file, whether it stands in packages.conda, the record's name.
+fn has_rows(shard: &Shard, rows: &[(&str, bool, &str)]) -> bool {
+    shard.len() == rows.len()
+        && rows.iter().enumerate().all(|(i, (file, conda, name))| {
+            shard.row(i).is_some_and(|row| {
+                row.file == *file && row.conda == *conda && row.view.name() == *name
+            })
+        })
+}
+
+#[test]
+fn reads_a_shard_without_files(rt: HostRuntime) -> Result<(), Fail> {
+    for bytes in [EMPTY, b"\x80", b"\xde\x00\x00"] {
+        let shard = read(rt.alloc(), &[bytes])?;
+        assert_eq!(rt; shard.len(), 0);
+        assert!(rt; shard.row(0).is_none());
+        assert_eq!(rt; shard.bytes(), bytes);
+    }
+    Ok(())
+}
+
+#[test]
+fn reads_a_file(rt: HostRuntime) -> Result<(), Fail> {
+    let shard = read(rt.alloc(), &[ONE_FILE])?;
+    assert!(rt; has_rows(&shard, &[("a-1-0.conda", true, "a")]));
+    assert_eq!(rt; shard.bytes(), ONE_FILE);
+    Ok(())
+}
+
+#[test]
+fn rows_are_in_the_order_of_their_files(rt: HostRuntime) -> Result<(), Fail> {
+    let shard = read(
+        rt.alloc(),
+        &[
+            b"\x82\xaepackages.conda\x83\xa1c",
+            A,
+            b"\xa1B",
+            A,
+            b"\xa2a0",
+            A,
+            b"\xa8packages\x83\xa1b",
+            B,
+            b"\xa2\xc3\xa9",
+            B,
+            b"\xa1a",
+            B,
+        ],
+    )?;
+    assert!(rt; has_rows(&shard, &[
+        ("B", true, "a"),
+        ("a", false, "b"),
+        ("a0", true, "a"),
+        ("b", false, "b"),
+        ("c", true, "a"),
+        ("\u{e9}", false, "b"),
+    ]));
+    Ok(())
+}
+
+#[test]
+fn of_one_file_name_the_row_of_packages_comes_first(rt: HostRuntime) -> Result<(), Fail> {
+    let shard = read(
+        rt.alloc(),
+        &[b"\x82\xaepackages.conda\x81\xa1x", A, b"\xa8packages\x81\xa1x", B],
+    )?;
+    assert!(rt; has_rows(&shard, &[("x", false, "b"), ("x", true, "a")]));
+    let exchanged = read(
+        rt.alloc(),
+        &[b"\x82\xa8packages\x81\xa1x", A, b"\xaepackages.conda\x81\xa1x", B],
+    )?;
+    assert!(rt; has_rows(&exchanged, &[("x", false, "a"), ("x", true, "b")]));
+    Ok(())
+}
+
+#[test]
+fn what_is_not_known_is_skipped_unread(rt: HostRuntime) -> Result<(), Fail> {
+    let shard = read(
+        rt.alloc(),
+        &[
+            b"\x84\xa1x\x92\xcb\x40\x09\x21\xfb\x54\x44\x2d\x18\xc7\x02\x05\xaa\xbb",
+            b"\xa8packages\x80\xa1x\xa1\xff\x81\x01\x02\xc0",
+        ],
+    )?;
+    assert_eq!(rt; shard.len(), 0);
+    let removed = read(rt.alloc(), &[b"\x81\xa7removed\x92\xa1a\x81\x01\xff"])?;
+    assert_eq!(rt; removed.len(), 0);
+    Ok(())
+}
+
+#[test]
+fn answers_each_fault_with_its_place(rt: HostRuntime) -> Result<(), Fail> {
+    for (bytes, kind, at) in FAULTS {
+        let outcome = Shard::read(rt.alloc(), bytes.to_vec(rt.alloc())?);
+        assert_eq!(rt; in_parts(outcome), Some((kind, at)), "{bytes:?}");
+    }
+    Ok(())
+}
+
+#[test]
+fn a_shard_that_breaks_off_is_short(rt: HostRuntime) -> Result<(), Fail> {
+    for end in 0..ONE_FILE.len() {
+        let bytes = ONE_FILE.get(..end).unwrap_or_default().to_vec(rt.alloc())?;
+        let outcome = Shard::read(rt.alloc(), bytes);
+        assert_eq!(rt; in_parts(outcome), Some((Short, end as u64)));
+    }
+    Ok(())
+}
+
+#[test]
+fn a_refusal_hands_the_bytes_back(rt: HostRuntime) -> Result<(), Fail> {
+    match Shard::read(rt.alloc(), b"\x80\x00".to_vec(rt.alloc())?) {
+        Err(ShardRefusal::Fault(_, bytes)) => {
+            assert_eq!(rt; bytes.as_slice(), b"\x80\x00".as_slice());
+            Ok(())
+        }
+        _ => Err("it isn't refused".into()),
+    }
+}
