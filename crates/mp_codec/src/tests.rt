@@ -82,16 +82,16 @@ fn value_of(alloc: Global, first: u8) -> Result<Vec<u8>, AllocError> {
 }
 
 // Skips what these bytes begin with, which must end so and leave the cursor there.
-fn check_skip(rt: &impl Abort, bytes: &[u8], expected: Result<(), Fault>, at: usize) {
+fn assert_skips(rt: &impl Abort, bytes: &[u8], expected: Result<(), Fault>, at: usize) {
     let mut cursor = Cursor::new(bytes);
     assert_eq!(rt; in_parts(cursor.skip()), expected, "{bytes:?}");
     assert_eq!(rt; cursor.at(), at, "{bytes:?}");
 }
 
 // Skips the front of these bytes, up to each place within them.
-fn check_cuts(rt: &impl Abort, bytes: &[u8]) {
+fn assert_short_at_each_cut(rt: &impl Abort, bytes: &[u8]) {
     for cut in 0..bytes.len() {
-        check_skip(rt, &bytes[..cut], Err((Short, cut as u64)), 0);
+        assert_skips(rt, &bytes[..cut], Err((Short, cut as u64)), 0);
     }
 }
 
@@ -102,9 +102,9 @@ fn each_first_byte_is_skipped_with_what_belongs_to_it(rt: HostRuntime) -> Result
         let len = bytes.len();
         bytes.extend_from_slice(&[NIL, NEVER_USED])?;
         if first == NEVER_USED {
-            check_skip(&rt, &bytes, Err((Reserved, 0)), 0);
+            assert_skips(&rt, &bytes, Err((Reserved, 0)), 0);
         } else {
-            check_skip(&rt, &bytes, Ok(()), len);
+            assert_skips(&rt, &bytes, Ok(()), len);
         }
     }
     Ok(())
@@ -114,7 +114,7 @@ fn each_first_byte_is_skipped_with_what_belongs_to_it(rt: HostRuntime) -> Result
 fn each_first_byte_is_short_at_each_cut(rt: HostRuntime) -> Result<(), Fail> {
     for first in 0x00..=0xff {
         let bytes = value_of(rt.alloc(), first)?;
-        check_cuts(&rt, &bytes);
+        assert_short_at_each_cut(&rt, &bytes);
     }
     Ok(())
 }
@@ -122,7 +122,7 @@ fn each_first_byte_is_short_at_each_cut(rt: HostRuntime) -> Result<(), Fail> {
 // ---- heads
 
 // The head that these bytes begin with, and the cursor's place behind it.
-fn check_head(rt: &impl Abort, bytes: &[u8], expected: Result<Head, Fault>, at: usize) {
+fn assert_head(rt: &impl Abort, bytes: &[u8], expected: Result<Head, Fault>, at: usize) {
     let mut cursor = Cursor::new(bytes);
     assert_eq!(rt; in_parts(cursor.head()), expected, "{bytes:?}");
     assert_eq!(rt; cursor.at(), at, "{bytes:?}");
@@ -187,7 +187,7 @@ const NUMBERS: [(&[u8], i128); 34] = [
 #[test]
 fn heads_of_numbers_have_the_value_that_their_bytes_spell(rt: HostRuntime) {
     for (bytes, number) in NUMBERS {
-        check_head(&rt, bytes, Ok(Head::Int(number)), bytes.len());
+        assert_head(&rt, bytes, Ok(Head::Int(number)), bytes.len());
     }
 }
 
@@ -237,7 +237,7 @@ const OTHER_HEADS: [(&[u8], Head); 36] = [
 #[test]
 fn heads_of_other_families_have_their_length_or_count(rt: HostRuntime) {
     for (bytes, head) in OTHER_HEADS {
-        check_head(&rt, bytes, Ok(head), bytes.len());
+        assert_head(&rt, bytes, Ok(head), bytes.len());
     }
 }
 
@@ -257,7 +257,7 @@ const NO_HEADS: [(&[u8], Fault); 9] = [
 #[test]
 fn heads_that_are_cut_or_never_used_leave_the_cursor(rt: HostRuntime) {
     for (bytes, expected) in NO_HEADS {
-        check_head(&rt, bytes, Err(expected), 0);
+        assert_head(&rt, bytes, Err(expected), 0);
     }
 }
 
@@ -277,8 +277,8 @@ const NESTED: [u8; 104] = [
 
 #[test]
 fn skips_what_another_program_wrote_and_is_short_at_each_cut(rt: HostRuntime) {
-    check_skip(&rt, &NESTED, Ok(()), 104);
-    check_cuts(&rt, &NESTED);
+    assert_skips(&rt, &NESTED, Ok(()), 104);
+    assert_short_at_each_cut(&rt, &NESTED);
 }
 
 // Bytes that begin with a value, and the number of bytes that it takes.
@@ -306,7 +306,7 @@ const SKIPPED: [(&[u8], usize); 8] = [
 #[test]
 fn skips_one_value_of_any_depth_and_no_more(rt: HostRuntime) {
     for (bytes, at) in SKIPPED {
-        check_skip(&rt, bytes, Ok(()), at);
+        assert_skips(&rt, bytes, Ok(()), at);
     }
 }
 
@@ -327,7 +327,7 @@ const BROKEN_OFF: [(&[u8], Fault); 9] = [
 #[test]
 fn refuses_the_first_value_that_breaks_off(rt: HostRuntime) {
     for (bytes, expected) in BROKEN_OFF {
-        check_skip(&rt, bytes, Err(expected), 0);
+        assert_skips(&rt, bytes, Err(expected), 0);
     }
 }
 
@@ -337,15 +337,15 @@ fn claimed_numbers_of_values_and_bytes_cost_nothing(rt: HostRuntime) {
     let pairs = [
         0xdf, 0xff, 0xff, 0xff, 0xff, 0, 0, 0, 0, 0, 0, 0, 0, 0, 0, 0, 0, 0, 0, 0,
     ];
-    check_skip(&rt, &pairs, Err((Short, 20)), 0);
-    check_skip(&rt, &[0xdd, 0xff, 0xff, 0xff, 0xff], Err((Short, 5)), 0);
-    check_skip(
+    assert_skips(&rt, &pairs, Err((Short, 20)), 0);
+    assert_skips(&rt, &[0xdd, 0xff, 0xff, 0xff, 0xff], Err((Short, 5)), 0);
+    assert_skips(
         &rt,
         &[0xdb, 0xff, 0xff, 0xff, 0xff, 0x61],
         Err((Short, 6)),
         0,
     );
-    check_skip(
+    assert_skips(
         &rt,
         &[0xc9, 0xff, 0xff, 0xff, 0xff, 0x01],
         Err((Short, 6)),
@@ -356,11 +356,11 @@ fn claimed_numbers_of_values_and_bytes_cost_nothing(rt: HostRuntime) {
 #[test]
 fn skips_lists_in_lists_a_hundred_thousand_deep(rt: HostRuntime) -> Result<(), Fail> {
     let mut bytes = vec![in rt.alloc(); 0x91u8; 100_000]?;
-    check_skip(&rt, &bytes, Err((Short, 100_000)), 0);
+    assert_skips(&rt, &bytes, Err((Short, 100_000)), 0);
     bytes.push(NIL)?;
-    check_skip(&rt, &bytes, Ok(()), 100_001);
+    assert_skips(&rt, &bytes, Ok(()), 100_001);
     bytes[99_999] = NEVER_USED;
-    check_skip(&rt, &bytes, Err((Reserved, 99_999)), 0);
+    assert_skips(&rt, &bytes, Err((Reserved, 99_999)), 0);
     Ok(())
 }
 
