@@ -57,14 +57,22 @@ const FAULTS: [(&[u8], FaultKind, u64); 27] = [
     // A record that is no map, and required keys whose values are no strs.
     (b"\xc0\x93\xa1a\xa11\xa10", Wrong, 1),
     (b"\xc0\x81\xa4name\x01", Wrong, 7),
-    (b"\xc0\x81\xa7version\xcb\x3f\xf0\x00\x00\x00\x00\x00\x00", Wrong, 10),
+    (
+        b"\xc0\x81\xa7version\xcb\x3f\xf0\x00\x00\x00\x00\x00\x00",
+        Wrong,
+        10,
+    ),
     (b"\xc0\x81\xa5build\xc4\x010", Wrong, 8),
     // Required keys whose values are no UTF-8.
     (b"\xc0\x81\xa4name\xa1\xff", NotText, 7),
     (b"\xc0\x81\xa5build\xd9\x02\xc3\x28", NotText, 8),
     // A required key is missing: the place is behind the map.
     (b"\xc0\x80", Missing, 2),
-    (b"\xc0\x82\xa4name\xa1a\xa7version\xa11\xa5build\xa10", Missing, 19),
+    (
+        b"\xc0\x82\xa4name\xa1a\xa7version\xa11\xa5build\xa10",
+        Missing,
+        19,
+    ),
     (b"\xc0\x81\xc4\x04name\xa1a", Missing, 10),
     // A known key stands twice, whatever its values are.
     (b"\xc0\x84\xa4name\xa1a\xa4name\xa1a", Repeated, 9),
@@ -122,7 +130,11 @@ fn with_pair(alloc: Global, pair: &[&[u8]]) -> Result<PackageRecord, Fail> {
     }
     let mut cursor = Cursor::new(bytes.as_slice());
     let record = read(alloc, &mut cursor)?;
-    if cursor.is_end() { Ok(record) } else { Err("bytes are left".into()) }
+    if cursor.is_end() {
+        Ok(record)
+    } else {
+        Err("bytes are left".into())
+    }
 }
 
 fn read(alloc: Global, cursor: &mut Cursor<'_>) -> Result<PackageRecord, Fail> {
@@ -199,7 +211,12 @@ fn a_value_of_another_kind_counts_as_missing(rt: HostRuntime) -> Result<(), Fail
 #[test]
 fn a_key_that_is_no_str_is_not_known(rt: HostRuntime) -> Result<(), Fail> {
     let alloc = rt.alloc();
-    for key in [b"\xc4\x04size".as_slice(), b"\x91\xa4size", b"\xa5size\x00", b"\xa4siz\xff"] {
+    for key in [
+        b"\xc4\x04size".as_slice(),
+        b"\x91\xa4size",
+        b"\xa5size\x00",
+        b"\xa4siz\xff",
+    ] {
         let record = with_pair(alloc, &[key, b"\x07"])?;
         assert!(rt; has_required_alone(record.view()), "{key:?}");
     }
@@ -217,7 +234,9 @@ fn a_digest_is_read_from_bytes_or_digits(rt: HostRuntime) -> Result<(), Fail> {
     ];
     for value in spelled {
         let record = with_pair(alloc, &[key, value])?;
-        let digest = [0x01, 0x23, 0x45, 0x67, 0x89, 0xab, 0xcd, 0xef, 0, 0, 0, 0, 0, 0, 0, 0x0f];
+        let digest = [
+            0x01, 0x23, 0x45, 0x67, 0x89, 0xab, 0xcd, 0xef, 0, 0, 0, 0, 0, 0, 0, 0x0f,
+        ];
         assert_eq!(rt; record.view().md5(), Some(digest), "{value:?}");
     }
     let missing: [&[u8]; 4] = [

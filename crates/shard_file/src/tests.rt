@@ -2,9 +2,7 @@
 
 use crate::refusal::ShardRefusal;
 use crate::shard::Shard;
-use mp_codec::FaultKind::{
-    self, Missing, NotText, Repeated, Reserved, Short, Trailing, Wrong,
-};
+use mp_codec::FaultKind::{self, Missing, NotText, Repeated, Reserved, Short, Trailing, Wrong};
 use std::alloc::Global;
 use std::test::Fail;
 
@@ -50,7 +48,11 @@ const FAULTS: [(&[u8], FaultKind, u64); 38] = [
     (b"\x81\xa7removed\x91\x91\xc1", Reserved, 11),
     // File names and required texts that are no UTF-8.
     (b"\x81\xa8packages\x81\xa1\xff\x80", NotText, 11),
-    (b"\x81\xaepackages.conda\x81\xa1a\x81\xa4name\xa1\xff", NotText, 25),
+    (
+        b"\x81\xaepackages.conda\x81\xa1a\x81\xa4name\xa1\xff",
+        NotText,
+        25,
+    ),
     // Values of other kinds: the shard, a map of files, a file name, a record, a required text.
     (b"\x90", Wrong, 0),
     (b"\xa0", Wrong, 0),
@@ -147,14 +149,19 @@ fn rows_are_in_the_order_of_their_files(rt: HostRuntime) -> Result<(), Fail> {
             B,
         ],
     )?;
-    assert!(rt; has_rows(&shard, &[
-        ("B", true, "a"),
-        ("a", false, "b"),
-        ("a0", true, "a"),
-        ("b", false, "b"),
-        ("c", true, "a"),
-        ("\u{e9}", false, "b"),
-    ]));
+    assert!(rt;
+        has_rows(
+            &shard,
+            &[
+                ("B", true, "a"),
+                ("a", false, "b"),
+                ("a0", true, "a"),
+                ("b", false, "b"),
+                ("c", true, "a"),
+                ("\u{e9}", false, "b"),
+            ]
+        )
+    );
     Ok(())
 }
 
@@ -162,12 +169,22 @@ fn rows_are_in_the_order_of_their_files(rt: HostRuntime) -> Result<(), Fail> {
 fn of_one_file_name_the_row_of_packages_comes_first(rt: HostRuntime) -> Result<(), Fail> {
     let shard = read(
         rt.alloc(),
-        &[b"\x82\xaepackages.conda\x81\xa1x", A, b"\xa8packages\x81\xa1x", B],
+        &[
+            b"\x82\xaepackages.conda\x81\xa1x",
+            A,
+            b"\xa8packages\x81\xa1x",
+            B,
+        ],
     )?;
     assert!(rt; has_rows(&shard, &[("x", false, "b"), ("x", true, "a")]));
     let exchanged = read(
         rt.alloc(),
-        &[b"\x82\xa8packages\x81\xa1x", A, b"\xaepackages.conda\x81\xa1x", B],
+        &[
+            b"\x82\xa8packages\x81\xa1x",
+            A,
+            b"\xaepackages.conda\x81\xa1x",
+            B,
+        ],
     )?;
     assert!(rt; has_rows(&exchanged, &[("x", false, "a"), ("x", true, "b")]));
     Ok(())
