@@ -25,7 +25,7 @@ pub const MOST_SHARD_BYTES: usize = 33_554_432;
 /// whichever is met first in reading. `BAD_FILE` where the input is no shard. `WRITE_FAULT` where
 /// a write failed: a part of the text was written, and with every other refusal none of it.
 /// `OUT_OF_MEMORY` may come at any place before the first write.
-/// (`docs/FORMATS.md`, "Words of show", "Printed lines of show" and "Statuses".)
+/// (`docs/FORMATS.md`, "Words and printed lines of `show`" and "Statuses".)
 pub fn run_show<I: Source, O: Sink>(
     alloc: Global,
     words: &[Text],
