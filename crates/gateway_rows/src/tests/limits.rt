@@ -1,7 +1,8 @@
 //! How much input is read.
 ghost use Rattle.std.specs.Prelude.{None};
 
-use crate::tests::{ROOM, bytes_of, show, sink, words_of};
+use crate::tests::ROOM;
+use crate::{bytes_of, show, sink, words_of};
 use gateway_tool::{MOST_SHARD_BYTES, Note, OK, TOO_MUCH_INPUT, run_show};
 use link_io::{Failed, Source};
 use std::test::Fail;

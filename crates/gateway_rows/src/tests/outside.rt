@@ -1,6 +1,7 @@
 //! Reads and writes that fail or go in small pieces.
 
-use crate::tests::{ONE_FILE, ONE_LINE, ROOM, bytes_of, show, sink, source, words_of};
+use crate::tests::{ONE_FILE, ONE_LINE, ROOM};
+use crate::{bytes_of, show, sink, source, words_of};
 use gateway_tool::{Note, OK, READ_FAULT, WRITE_FAULT, run_show};
 use std::test::Fail;
 

@@ -1,6 +1,7 @@
 //! Shards and bytes that are none, each with what `show` writes and answers.
 
-use crate::tests::{ONE_FILE, ONE_LINE, ROOM, bytes_of, show, sink};
+use crate::tests::{ONE_FILE, ONE_LINE, ROOM};
+use crate::{bytes_of, show, sink};
 use gateway_tool::{BAD_FILE, Note, OK};
 use mp_codec::{FaultKind, FormatFault};
 use std::test::Fail;

@@ -1,6 +1,7 @@
 //! What is printed of a record.
 
-use crate::tests::{ROOM, bytes_of, show, sink};
+use crate::tests::ROOM;
+use crate::{bytes_of, show, sink};
 use gateway_tool::{Note, OK};
 use std::test::Fail;
 

@@ -1,6 +1,7 @@
 //! Words that are those of `show`, and words that are not.
 
-use crate::tests::{ONE_FILE, ONE_LINE, ROOM, bytes_of, show, sink, source, words_of};
+use crate::tests::{ONE_FILE, ONE_LINE, ROOM};
+use crate::{bytes_of, show, sink, source, words_of};
 use gateway_tool::{
     BAD_FILE, Note, OK, OUT_OF_MEMORY, READ_FAULT, TOO_MUCH_INPUT, USAGE, WRITE_FAULT, run_show,
     status_line,
