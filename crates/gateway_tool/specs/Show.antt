@@ -1,5 +1,5 @@
 -- What show answers: the rows that were written, the fault of a bad file, and the status that an input leads to.
-use Rattle.std.specs.Prelude.{◌≡◌, ℕ, ◌<◌, ◌≤◌, List, [], ◌∷◌, ◌++◌, length, Option, IfSome}
+use Rattle.std.specs.Prelude.{◌≡◌, ℕ, ◌<◌, ◌≤◌, List, ◌∷◌, length, Option, IfSome}
 use Rattle.mp_codec.specs.declared.fault.FormatFault.{FormatFault}
 use Rattle.mp_codec.specs.Fault.{IsFirstFault}
 use Rattle.shard_file.specs.Rows.{Row, ShardOf, ShardFault}

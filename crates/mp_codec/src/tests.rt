@@ -608,24 +608,29 @@ fn writes_texts_and_bytes_by_their_shortest_spellings(rt: HostRuntime) -> Result
     let alloc = rt.alloc();
     for (len, str_head, bin_head) in WRITTEN_PAYLOADS {
         let payload = vec![in alloc; b'a'; len]?;
+        assert!(rt; payload.len() <= 65_536, "{len}");
         let text = utf8_text(payload.as_slice()).ok_or("it is ASCII")?;
-        let mut out = Vec::new(alloc);
-        put_str(&mut out, text)?;
-        assert_eq!(rt; out.get(..str_head.len()), Some(str_head), "{len}");
+        let mut str = Vec::new(alloc);
+        put_str(&mut str, text)?;
+        assert_eq!(rt; str.get(..str_head.len()), Some(str_head), "{len}");
         assert_eq!(rt;
-            in_parts(Cursor::new(out.as_slice()).text()),
+            str.get(str_head.len()..),
+            Some(payload.as_slice()),
+            "{len}"
+        );
+        assert_eq!(rt;
+            in_parts(Cursor::new(str.as_slice()).text()),
             Ok(text),
             "{len}"
         );
-        let start = out.len();
-        assert_eq!(rt; start, str_head.len() + len);
-        put_bin(&mut out, payload.as_slice())?;
+        let mut bin = Vec::new(alloc);
+        put_bin(&mut bin, payload.as_slice())?;
+        assert_eq!(rt; bin.get(..bin_head.len()), Some(bin_head), "{len}");
         assert_eq!(rt;
-            out.get(start..start + bin_head.len()),
-            Some(bin_head),
+            bin.get(bin_head.len()..),
+            Some(payload.as_slice()),
             "{len}"
         );
-        assert_eq!(rt; out.len(), start + bin_head.len() + len);
     }
     Ok(())
 }

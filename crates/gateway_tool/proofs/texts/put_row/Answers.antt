@@ -1,4 +1,4 @@
-use Rattle.std.proofs.Common.{◌≡◌, ◌++◌, List, ℕ, sym, ◌∙◌, ap, take, append_assoc, arith}
+use Rattle.std.proofs.Common.{◌++◌, List, ℕ, sym, ◌∙◌, ap, take, append_assoc, arith}
 use Rattle.std.specs.List.{flat_map}
 use Rattle.conda_record.specs.View.{seen}
 use Rattle.gateway_tool.specs.Texts.{depend_line}
