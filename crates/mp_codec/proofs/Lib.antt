@@ -16,3 +16,4 @@ pub mod EntryLemmas
 pub mod MappedLemmas
 pub mod OwedLemmas
 pub mod WritingLemmas
+pub mod WrittenLemmas
