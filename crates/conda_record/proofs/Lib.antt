@@ -4,5 +4,4 @@ pub mod ValueLemmas
 pub mod RecordLemmas
 pub mod RefusalLemmas
 pub mod WrittenLemmas
-pub mod WritingLoop
 pub mod CountLemmas

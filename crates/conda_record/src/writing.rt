@@ -33,7 +33,7 @@ ghost use Rattle.conda_record.specs.Writing.{
 };
 
 use crate::record::PackageRecord;
-use mp_codec::{Text, put_array, put_bin, put_map, put_str, put_uint};
+use mp_codec::{Text, cut_back, put_array, put_bin, put_map, put_str, put_uint};
 use std::alloc::AllocError;
 
 // The text, which is UTF-8.
@@ -180,23 +180,6 @@ fn put_sha256_if(out: &mut Vec<u8>, key: &str, digest: Option<[u8; 32]>) -> Resu
         Some(digest) => put_bytes(out, key, &digest),
         None => Ok(()),
     }
-}
-
-// The outcome of a writer, with the vector cut back to its old length where it failed.
-fn cut_back(
-    out: &mut Vec<u8>,
-    old: usize,
-    outcome: Result<(), AllocError>,
-) -> Result<(), AllocError>
-    requires { old ≤ vec_len out.old }
-    ensures same { result ≡ outcome }
-    ensures ok { OnOk outcome (out.new.items ≡ out.old.items) }
-    ensures cut { OnErr outcome (out.new.items ≡ take old out.old.items) }
-{
-    if outcome.is_err() {
-        out.truncate(old);
-    }
-    outcome
 }
 
 // 1 where it holds, else 0.

@@ -17,3 +17,4 @@ pub mod MappedLemmas
 pub mod OwedLemmas
 pub mod WritingLemmas
 pub mod WrittenLemmas
+pub mod AppendLemmas

@@ -13,14 +13,15 @@ use Rattle.mp_codec.specs.declared.fault.FaultKind.TheVariants as kind
 use Rattle.mp_codec.specs.declared.head.Head.{Head}
 use Rattle.mp_codec.specs.declared.head.Head.TheVariants as head
 use Rattle.mp_codec.specs.Fault.{fault_here}
-use Rattle.mp_codec.specs.Value.{str_len, map_len, array_len, whole}
+use Rattle.mp_codec.specs.Value.{Value, value, none, str_len, map_len, array_len, whole}
 use Rattle.mp_codec.specs.Keys.{has_bytes}
-use Rattle.mp_codec.specs.Reading.{head_from, bytes_from}
-use Rattle.mp_codec.specs.Spelling.{HeadLies}
+use Rattle.mp_codec.specs.Reading.{head_from, bytes_from, values_from}
+use Rattle.mp_codec.specs.Spelling.{HeadLies, Spells}
 use Rattle.mp_codec.specs.Maps.{Read, skipped, ended, all_from, entries_from, pairs_or_wrong, map_head_from, map_from, text_or_wrong, text_from, bytes_or_skipped, str_from, number_or_skipped, number_from, place_of, is_distinct, unread, known_key_from, known_value_from, known_end_from, known_map_from}
 use Rattle.mp_codec.specs.Writing.{uint_bytes, str_head, bin_head, array_head, map_head, str_bytes, bin_bytes, pair_bytes, pairs_bytes, value_count, known_map_bytes, HeadStandsAs}
 use Rattle.mp_codec.proofs.BindLemmas.{bind_ok}
 use Rattle.mp_codec.proofs.PlaceLemmas.{position, between_here, between_there, between_join, bytes_then, lies_head}
+use Rattle.mp_codec.proofs.PassingLemmas.{lies_value}
 use Rattle.mp_codec.proofs.WritingLemmas.{uint_spelled, str_head_spelled, bin_head_spelled, array_head_spelled, map_head_spelled}
 
 -- ---- bytes between two positions, in two parts
@@ -128,6 +129,19 @@ unfolding number_from
 number_read_back n lt here there at =
     bind_ok (head_from here) (λ h. number_or_skipped (whole h.0) here h.1) (head.Int (pos n), there) (head_read (head.Int (pos n)) (uint_bytes n) (uint_stands n lt) here there at)
     ∙ ap (λ (o : Option ℕ). number_or_skipped o here there) (whole_is n lt)
+
+-- a value that is skipped
+pub skipped_back : {X : Type 0} (x : X) (v : Value) (bytes : List ℕ) → Spells v bytes → ReadAs (skipped x) bytes x
+skipped_back x v bytes spelled here there at =
+    bind_ok (values_from 1 here) (λ there. Ok (x, there)) there (lies_value v here there (record { bytes = bytes; spelled = spelled; between = at }))
+
+-- an empty array
+pub no_elements : Value
+no_elements = value (head.Array 0) [] none
+
+pub no_elements_spelled : Spells no_elements (array_head 0)
+unfolding no_elements
+no_elements_spelled = (array_head 0, [], record { head = array_head_spelled 0 (omega arith); payload_len = refl; part_count = refl }, refl, refl)
 
 -- ---- maps
 

@@ -2,7 +2,7 @@ use Rattle.std.proofs.Common.{◌≡◌, subst, ◌∙◌, ap, ℕ, ◌+◌, ◌
 use Rattle.std.specs.Prelude.{slice_index_or}
 use Rattle.mp_codec.specs.Writing.{str_bytes}
 use Rattle.conda_record.specs.Writing.{AreText}
-use Rattle.conda_record.proofs.WritingLoop.{one_more, all_more}
+use Rattle.mp_codec.proofs.AppendLemmas.{one_more, all_more}
 use Rattle.conda_record.proofs.writing.put_elements.Goals as goal
 
 pub loop-text-preserved : goal.loop-text-preserved

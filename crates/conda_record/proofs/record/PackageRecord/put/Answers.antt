@@ -1,7 +1,7 @@
 use Rattle.std.proofs.Common.{◌≡◌, ◌∙◌, ap, ◌++◌, ℕ, List}
 use Rattle.mp_codec.specs.Writing.{map_head}
 use Rattle.conda_record.specs.Writing.{key_count, first_pairs, middle_pairs, last_pairs}
-use Rattle.conda_record.proofs.WritingLoop.{on_ok, on_err, on_err_too, both_written, kept_before}
+use Rattle.mp_codec.proofs.AppendLemmas.{on_ok, on_err, on_err_too, both_written, kept_before}
 use Rattle.conda_record.proofs.WrittenLemmas.{record_parts}
 use Rattle.conda_record.proofs.record.PackageRecord.put.Goals as goal
 

@@ -1,4 +1,4 @@
--- A loop that writes one element after the other.
+-- Writers one behind the other: a loop over elements, and calls in a row.
 use Rattle.std.proofs.Common.{◌≡◌, subst, ◌⊎◌, inl, inr, sym, ◌∙◌, ap, ℕ, ◌+◌, ◌<◌, ◌≤◌, List, [], ◌∷◌, ◌++◌, length, take, drop, arith, append_assoc, append-nil, get_or}
 use Rattle.std.specs.Prelude.{Result, Ok, Err, OnOk, OnErr}
 use Rattle.std.specs.List.{flat_map, All}
