@@ -50,3 +50,7 @@ kept_before a old mid now first kept =
 pub on_err_too : {T E : Type 0} {P : Type 0} (r : Result T E) → P → OnErr r P
 on_err_too (Ok x) p = tt
 on_err_too (Err e) p = p
+
+pub on_ok_too : {T E : Type 0} {P : Type 0} (r : Result T E) → P → OnOk r P
+on_ok_too (Ok x) p = p
+on_ok_too (Err e) p = tt

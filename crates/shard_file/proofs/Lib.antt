@@ -3,3 +3,5 @@ pub mod SortLemmas
 pub mod FileLoop
 pub mod FileLemmas
 pub mod ShardLemmas
+pub mod WrittenLemmas
+pub mod UnderLemmas
