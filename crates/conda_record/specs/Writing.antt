@@ -1,7 +1,7 @@
 -- The bytes of a record that is written, and which records can be (docs/FORMATS.md, "Package records").
-use Rattle.std.specs.Prelude.{◌≡◌, ℕ, ◌<◌, ◌^◌, Bool, true, List, [], ◌∷◌, ◌++◌, length, Option, Some, None, IfSome, codes, if◌then◌else◌}
+use Rattle.std.specs.Prelude.{◌≡◌, ℕ, ◌<◌, ◌^◌, Bool, true, nat_lt, ◌&&◌, List, [], ◌∷◌, ◌++◌, length, Option, Some, None, IfSome, codes, if◌then◌else◌}
 use Rattle.std.specs.Option.{option_map}
-use Rattle.std.specs.List.{flat_map, All}
+use Rattle.std.specs.List.{flat_map, list_all, All}
 use Rattle.std.specs.Str.{is_utf8}
 use Rattle.gateway_words.specs.Places.{Position, Between}
 use Rattle.mp_codec.specs.Writing.{uint_bytes, str_bytes, bin_bytes, array_head, pair_bytes, value_count, known_map_bytes}
@@ -75,6 +75,37 @@ pub record AreFields (f : Fields) : Type 0 where
 -- where the bytes of the record of these fields stand, this record stands, whatever follows it
 abbrev pub IsReadAgain : Fields → Type 0
 IsReadAgain f = (here there : Position) → Between (record_bytes f) here there → RecordAt here f there
+
+-- ---- which records can be written, as a test
+
+-- a head of MessagePack can say the length of this list
+abbrev pub can_be_said : {X : Type 0} → List X → Bool
+can_be_said xs = nat_lt (length xs) (2 ^ 32)
+
+-- the same, if there is a text
+abbrev pub can_be_said_if : Option (List ℕ) → Bool
+can_be_said_if (Some text) = can_be_said text
+can_be_said_if None = true
+
+-- heads can say the length of this list and of each of its texts
+abbrev pub can_all_be_said : List (List ℕ) → Bool
+can_all_be_said texts = can_be_said texts && list_all can_be_said texts
+
+-- the required texts
+abbrev pub are_required_short : Fields → Bool
+are_required_short f = can_be_said f.name && (can_be_said f.version && can_be_said f.build)
+
+-- the optional texts
+abbrev pub are_optional_short : Fields → Bool
+are_optional_short f = can_be_said_if f.subdir && (can_be_said_if f.license && can_be_said_if f.noarch)
+
+-- all texts that are no elements of a list
+abbrev pub are_texts_short : Fields → Bool
+are_texts_short f = are_required_short f && are_optional_short f
+
+-- the lists
+abbrev pub are_lists_short : Fields → Bool
+are_lists_short f = can_all_be_said f.depends && can_all_be_said f.constrains
 
 -- ---- a record in three parts, as it is written
 

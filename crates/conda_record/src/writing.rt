@@ -1,8 +1,9 @@
 //! Writing a record behind what a vector holds.
 
-ghost use Rattle.std.specs.Prelude.{◌≡◌, ◌+◌, ◌<◌, ◌≤◌, ◌^◌, ◌++◌, ℕ, Bool, Some, None, IfSome, OnOk, OnErr, length, take, vec_len, codes};
+ghost use Rattle.std.specs.Prelude.{◌≡◌, ◌&&◌, ◌+◌, ◌<◌, ◌≤◌, ◌^◌, ◌++◌, ℕ, Bool, Some, None, IfSome, OnOk, OnErr, length, take, vec_len, codes};
 ghost use Rattle.std.specs.Option.{option_map};
-ghost use Rattle.std.specs.List.{flat_map, All};
+ghost use Rattle.std.specs.List.{list_all, flat_map, All};
+ghost use Rattle.std.specs.Bool.{Decides};
 ghost use Rattle.mp_codec.specs.Writing.{
   uint_bytes,
   str_bytes,
@@ -18,6 +19,13 @@ ghost use Rattle.conda_record.specs.Writing.{
   AreText,
   AreFields,
   IsReadAgain,
+  can_be_said,
+  can_be_said_if,
+  can_all_be_said,
+  are_required_short,
+  are_optional_short,
+  are_texts_short,
+  are_lists_short,
   count_if,
   text_pair,
   number_pair,
@@ -189,7 +197,75 @@ fn one_if(holds: bool) -> u32
     u32::from(holds)
 }
 
+// Whether a head of MessagePack can say the length of the text.
+fn is_short(text: &Text) -> bool
+    ensures { result ≡ can_be_said text.now }
+{
+    (text.as_str().len() as u64) < 0x1_0000_0000
+}
+
+// Whether heads can say the length of the list and of each of its texts.
+fn are_short(texts: &[Text]) -> bool
+    ensures { result ≡ can_all_be_said texts.now }
+{
+    (texts.len() as u64) < 0x1_0000_0000 && each_is_short(texts)
+}
+
+// Whether heads can say the lengths of the texts.
+fn each_is_short(texts: &[Text]) -> bool
+    ensures { result ≡ list_all can_be_said texts.now }
+{
+    texts.iter().all(|text| is_short(text))
+}
+
+// Whether a head can say the length of the text, if there is one.
+fn is_short_if(text: &Option<Text>) -> bool
+    ensures { result ≡ can_be_said_if text.now }
+{
+    match text {
+        Some(text) => is_short(text),
+        None => true,
+    }
+}
+
 impl PackageRecord {
+    /// Whether the record can be written: its texts and lists are shorter than 2^32, as those of each
+    /// record that was read are.
+    #[tactic(auto, using(crate::proofs::CountLemmas::writable_decides))]
+    pub fn is_writable(&self) -> bool
+        ensures { Decides result (IsWritable self.now) }
+    {
+        self.are_texts_short() && self.are_lists_short()
+    }
+
+    // Whether the lists can be written.
+    fn are_lists_short(&self) -> bool
+        ensures { result ≡ are_lists_short self.now }
+    {
+        are_short(&self.depends) && are_short(&self.constrains)
+    }
+
+    // Whether the texts can be written.
+    fn are_texts_short(&self) -> bool
+        ensures { result ≡ are_texts_short self.now }
+    {
+        self.are_required_short() && self.are_optional_short()
+    }
+
+    // Whether the required texts can be written.
+    fn are_required_short(&self) -> bool
+        ensures { result ≡ are_required_short self.now }
+    {
+        is_short(&self.name) && is_short(&self.version) && is_short(&self.build)
+    }
+
+    // Whether the optional texts can be written.
+    fn are_optional_short(&self) -> bool
+        ensures { result ≡ are_optional_short self.now }
+    {
+        is_short_if(&self.subdir) && is_short_if(&self.license) && is_short_if(&self.noarch)
+    }
+
     /// Appends the record as one map, by the shortest spellings: the keys that have a value, in the
     /// order of docs/FORMATS.md, "Package records"; `build_number` and `depends` always.
     ///

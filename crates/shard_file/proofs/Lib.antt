@@ -5,3 +5,4 @@ pub mod FileLemmas
 pub mod ShardLemmas
 pub mod WrittenLemmas
 pub mod UnderLemmas
+pub mod AscendingLemmas

@@ -19,4 +19,4 @@ mod writing;
 pub use laws::a_written_shard_is_read;
 pub use refusal::ShardRefusal;
 pub use shard::{FileRecord, Shard, ShardRow};
-pub use writing::write_shard;
+pub use writing::{can_write_shard, write_shard};

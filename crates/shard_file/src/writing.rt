@@ -1,7 +1,10 @@
 //! Writing a shard behind what a vector holds.
 
 ghost use Rattle.std.specs.Prelude.{◌≡◌, ◌+◌, ◌<◌, ◌≤◌, ◌^◌, ◌++◌, ℕ, Bool, Some, None, OnOk, OnErr, length, take, codes, vec_len};
+ghost use Rattle.std.specs.Bool.{Decides};
+ghost use Rattle.std.specs.Ordering.{is_lt};
 ghost use Rattle.std.specs.List.{flat_map, All};
+ghost use Rattle.std.specs.List.Sorted.{IsStrictlySortedBy};
 ghost use Rattle.mp_codec.specs.Writing.{str_bytes, array_head, pair_bytes};
 ghost use Rattle.shard_file.specs.Rows.{ShardOf};
 ghost use Rattle.shard_file.specs.Writing.{
@@ -12,6 +15,7 @@ ghost use Rattle.shard_file.specs.Writing.{
   files_pair,
   removed_pair,
   shard_bytes,
+  row_cmp,
   IsWritableRow,
   AreWritable,
   IsReadableRow,
@@ -23,11 +27,62 @@ ghost use Rattle.conda_record.specs.Writing.{AreText};
 use crate::shard::FileRecord;
 use mp_codec::{cut_back, put_array, put_map, put_str};
 use std::alloc::AllocError;
+use std::cmp::Ordering;
+
+/// Whether these files can be written as one shard: they ascend by their names, `packages` first at
+/// one name, none stands twice, and they, their names, texts and lists are fewer than 2^32.
+pub fn can_write_shard(files: &[FileRecord]) -> bool
+    ensures { Decides result (AreWritable files.now) }
+{
+    (files.len() as u64) < 0x1_0000_0000 && are_ascending(files) && is_each_writable(files)
+}
+
+// Whether each file comes before those that follow it.
+fn are_ascending(files: &[FileRecord]) -> bool
+    ensures { Decides result (IsStrictlySortedBy row_cmp files.now) }
+{
+    for i in 1..files.len() {
+        if !comes_before(&files[i - 1], &files[i]) {
+            return false;
+        }
+    }
+    true
+}
+
+// Whether the first file comes before the second.
+fn comes_before(first: &FileRecord, second: &FileRecord) -> bool
+    ensures { result ≡ is_lt (row_cmp first.now second.now) }
+{
+    match first.file.as_str().cmp(second.file.as_str()) {
+        Ordering::Less => true,
+        Ordering::Equal => !first.conda && second.conda,
+        Ordering::Greater => false,
+    }
+}
+
+// Whether each file's name and record can be written.
+fn is_each_writable(files: &[FileRecord]) -> bool
+    ensures { Decides result (All IsWritableRow files.now) }
+{
+    for file in files {
+        if !is_row_writable(file) {
+            return false;
+        }
+    }
+    true
+}
+
+// Whether the file's name and record can be written.
+fn is_row_writable(file: &FileRecord) -> bool
+    ensures { Decides result (IsWritableRow file.now) }
+{
+    (file.file.as_str().len() as u64) < 0x1_0000_0000 && file.value.is_writable()
+}
 
 /// Appends the shard of these files: a map of `packages`, `packages.conda` and an empty `removed`,
 /// by the shortest spellings, the files of each in their order.
 ///
-/// The files ascend by their names, `packages` first at one name, and no file stands twice.
+/// `can_write_shard` is the test of the condition.
 /// At want of memory the vector is as before. (CEP 16, "shards"; `docs/FORMATS.md`, "Shards".)
 pub fn write_shard(files: &[FileRecord], out: &mut Vec<u8>) -> Result<(), AllocError>
     requires { AreWritable files.now }
