@@ -60,34 +60,34 @@ said_if None = (λ e. tt, λ p. refl)
 all_said : (texts : List (List ℕ)) → Decides (can_all_be_said texts) (AreShort texts)
 all_said texts = (
   λ e. let b = both_true (can_be_said texts) (list_all can_be_said texts) e in
-  record { many = (said texts).0 b.0; each = λ k d lt. (said (get_or texts k d)).0 (AllPass-from_list_all can_be_said texts b.1 k d lt) },
+      record { many = (said texts).0 b.0; each = λ k d lt. (said (get_or texts k d)).0 (AllPass-from_list_all can_be_said texts b.1 k d lt) },
   λ p. both (can_be_said texts) (list_all can_be_said texts) ((said texts).1 p.many) (list_all-from_AllPass can_be_said texts (λ k d lt. (said (get_or texts k d)).1 (p.each k d lt))),
 )
 
 pub writable_decides : (f : Fields) → Decides (are_texts_short f && are_lists_short f) (IsWritable f)
 writable_decides f = (
   λ e.
-    let parts = both_true (are_texts_short f) (are_lists_short f) e in
-    let texts = both_true (are_required_short f) (are_optional_short f) parts.0 in
-    let lists = both_true (can_all_be_said f.depends) (can_all_be_said f.constrains) parts.1 in
-    let a = both_true (can_be_said f.name) (can_be_said f.version && can_be_said f.build) texts.0 in
-    let b = both_true (can_be_said f.version) (can_be_said f.build) a.1 in
-    let c = both_true (can_be_said_if f.subdir) (can_be_said_if f.license && can_be_said_if f.noarch) texts.1 in
-    let d = both_true (can_be_said_if f.license) (can_be_said_if f.noarch) c.1 in
-    record {
-      name_short = (said f.name).0 a.0;
-      version_short = (said f.version).0 b.0;
-      build_short = (said f.build).0 b.1;
-      depends_short = (all_said f.depends).0 lists.0;
-      constrains_short = (all_said f.constrains).0 lists.1;
-      subdir_short = (said_if f.subdir).0 c.0;
-      license_short = (said_if f.license).0 d.0;
-      noarch_short = (said_if f.noarch).0 d.1;
-    },
+      let parts = both_true (are_texts_short f) (are_lists_short f) e in
+      let texts = both_true (are_required_short f) (are_optional_short f) parts.0 in
+      let lists = both_true (can_all_be_said f.depends) (can_all_be_said f.constrains) parts.1 in
+      let a = both_true (can_be_said f.name) (can_be_said f.version && can_be_said f.build) texts.0 in
+      let b = both_true (can_be_said f.version) (can_be_said f.build) a.1 in
+      let c = both_true (can_be_said_if f.subdir) (can_be_said_if f.license && can_be_said_if f.noarch) texts.1 in
+      let d = both_true (can_be_said_if f.license) (can_be_said_if f.noarch) c.1 in
+      record {
+        name_short = (said f.name).0 a.0;
+        version_short = (said f.version).0 b.0;
+        build_short = (said f.build).0 b.1;
+        depends_short = (all_said f.depends).0 lists.0;
+        constrains_short = (all_said f.constrains).0 lists.1;
+        subdir_short = (said_if f.subdir).0 c.0;
+        license_short = (said_if f.license).0 d.0;
+        noarch_short = (said_if f.noarch).0 d.1;
+      },
   λ p.
-    both (are_texts_short f) (are_lists_short f)
-    (both (are_required_short f) (are_optional_short f)
-    (both (can_be_said f.name) (can_be_said f.version && can_be_said f.build) ((said f.name).1 p.name_short) (both (can_be_said f.version) (can_be_said f.build) ((said f.version).1 p.version_short) ((said f.build).1 p.build_short)))
-    (both (can_be_said_if f.subdir) (can_be_said_if f.license && can_be_said_if f.noarch) ((said_if f.subdir).1 p.subdir_short) (both (can_be_said_if f.license) (can_be_said_if f.noarch) ((said_if f.license).1 p.license_short) ((said_if f.noarch).1 p.noarch_short))))
-    (both (can_all_be_said f.depends) (can_all_be_said f.constrains) ((all_said f.depends).1 p.depends_short) ((all_said f.constrains).1 p.constrains_short)),
+      both (are_texts_short f) (are_lists_short f)
+      (both (are_required_short f) (are_optional_short f)
+      (both (can_be_said f.name) (can_be_said f.version && can_be_said f.build) ((said f.name).1 p.name_short) (both (can_be_said f.version) (can_be_said f.build) ((said f.version).1 p.version_short) ((said f.build).1 p.build_short)))
+      (both (can_be_said_if f.subdir) (can_be_said_if f.license && can_be_said_if f.noarch) ((said_if f.subdir).1 p.subdir_short) (both (can_be_said_if f.license) (can_be_said_if f.noarch) ((said_if f.license).1 p.license_short) ((said_if f.noarch).1 p.noarch_short))))
+      (both (can_all_be_said f.depends) (can_all_be_said f.constrains) ((all_said f.depends).1 p.depends_short) ((all_said f.constrains).1 p.constrains_short)),
 )
