@@ -6,6 +6,7 @@
 #![tactic(auto)]
 
 mod files;
+mod leaf;
 mod names;
 mod reading;
 mod refusal;
@@ -13,5 +14,6 @@ mod shard;
 #[cfg(test)]
 mod tests;
 
+pub use leaf::{Leaf, LeafRefusal};
 pub use refusal::ShardRefusal;
 pub use shard::{Shard, ShardRow};

@@ -37,8 +37,8 @@ pub struct ShardRow<'a> {
 /// The rows of some bytes, with the bytes. Contracts see both.
 #[derive(Debug, Drop)]
 pub struct Shard {
-    bytes: Vec<u8>,
-    rows: Vec<FileRow>,
+    pub(crate) bytes: Vec<u8>,
+    pub(crate) rows: Vec<FileRow>,
 }
 
 impl Model for Shard {
