@@ -3,3 +3,6 @@ pub mod TextLoop
 pub mod ValueLemmas
 pub mod RecordLemmas
 pub mod RefusalLemmas
+pub mod WrittenLemmas
+pub mod WritingLoop
+pub mod CountLemmas

@@ -1,6 +1,6 @@
 -- What the writers append is read again as what it was written for, whatever follows it.
 use Rattle.std.proofs.Common.{◌≡◌, refl, sym, ◌∙◌, ap, subst, ℕ, zero, suc, pos, ◌+◌, ◌<◌, ◌^◌, Bool, true, false, not, cond, ltb, ◌&&◌, ◌||◌, List, [], ◌∷◌, ◌++◌, length, take, arith, length-append, append_assoc, append-nil}
-use Rattle.std.specs.Prelude.{Result, Ok, Err, Option, Some, None, is_some, slice_index_or, slice_set}
+use Rattle.std.specs.Prelude.{nat_lt, Result, Ok, Err, Option, Some, None, is_some, slice_index_or, slice_set}
 use Rattle.std.specs.Str.{bytes_eq, is_utf8}
 use Rattle.std.specs.List.{list_any, list_all}
 use Rattle.std.proofs.lemmas.Bool.{ltb-true, ltb-false}
@@ -37,6 +37,12 @@ halves a b here there p = record {
   first = record { left = p.left ∙ append_assoc a b there.left; at = refl };
   second = record { left = refl; at = let at : there.at ≡ here.at + length (a ++ b) = p.at in omega (arith, length-append a b) };
 }
+
+-- between no bytes there is one position
+pub nothing_between : (here there : Position) → Between [] here there → here ≡ there
+nothing_between here there at =
+    between_here [] here there at
+    ∙ sym (between_there [] here there at ∙ ap (λ (k : ℕ). position k there.left) (let e : here.at + 0 ≡ here.at = omega arith in e))
 
 -- ---- a reading of what stands somewhere, whatever follows it
 
@@ -146,7 +152,7 @@ Written datum_from n (name ∷ names) (v ∷ vs) [] = ⊥
 Written datum_from n (name ∷ names) (None ∷ vs) (None ∷ ds) = Written datum_from (suc n) names vs ds
 Written datum_from n (name ∷ names) (None ∷ vs) (Some d ∷ ds) = ⊥
 Written datum_from n (name ∷ names) (Some bytes ∷ vs) (None ∷ ds) = ⊥
-Written datum_from n (name ∷ names) (Some bytes ∷ vs) (Some d ∷ ds) = (length name < 2 ^ 32) × ReadAs (datum_from n) bytes d × Written datum_from (suc n) names vs ds
+Written datum_from n (name ∷ names) (Some bytes ∷ vs) (Some d ∷ ds) = ReadAs (datum_from n) bytes d × Written datum_from (suc n) names vs ds
 
 both_true : (a b : Bool) → (a && b) ≡ true → (a ≡ true) × (b ≡ true)
 both_true true b e = (refl, e)
@@ -180,15 +186,23 @@ place_found name (f ∷ front) rest d =
     let other : bytes_eq name f ≡ false = apart name f front rest (not_true (list_any (λ q. bytes_eq f q) (front ++ name ∷ rest)) both.0) in
     ap (λ (b : Bool). cond b 0 (suc (place_of (front ++ name ∷ rest) (Some name)))) other ∙ ap (λ (n : ℕ). suc n) (place_found name front rest both.1)
 
-module _ {D : Type 0} (names : List (List ℕ)) (distinct : is_distinct names ≡ true) (required : ℕ) (datum_from : ℕ → Position → Read D) where
+-- names whose lengths a head can say
+abbrev pub are_short : List (List ℕ) → Bool
+are_short = list_all (λ name. nat_lt (length name) (2 ^ 32))
+
+short_one : (name : List ℕ) (front rest : List (List ℕ)) → are_short (front ++ name ∷ rest) ≡ true → length name < 2 ^ 32
+short_one name [] rest all = ltb-true (length name) (2 ^ 32) (both_true (nat_lt (length name) (2 ^ 32)) (are_short rest) all).0
+short_one name (f ∷ front) rest all = short_one name front rest (both_true (nat_lt (length f) (2 ^ 32)) (are_short (front ++ name ∷ rest)) all).1
+
+module _ {D : Type 0} (names : List (List ℕ)) (distinct : is_distinct names ≡ true) (short : are_short names ≡ true) (required : ℕ) (datum_from : ℕ → Position → Read D) where
   -- a key that was not read yet
-  key_written : (name : List ℕ) (front rest : List (List ℕ)) (done later : List (Option D)) → names ≡ front ++ name ∷ rest → length done ≡ length front → length name < 2 ^ 32
+  key_written : (name : List ℕ) (front rest : List (List ℕ)) (done later : List (Option D)) → names ≡ front ++ name ∷ rest → length done ≡ length front
       → ReadAs (known_key_from names (done ++ None ∷ later)) (str_bytes name) (length front)
   unfolding known_key_from
-  key_written name front rest done later is len lt here there at =
+  key_written name front rest done later is len here there at =
       let place : place_of names (Some name) ≡ length front = ap (λ (ns : List (List ℕ)). place_of ns (Some name)) is ∙ place_found name front rest (ap is_distinct (sym is) ∙ distinct) in
       let new : slice_index_or (done ++ None ∷ later) (place_of names (Some name)) None ≡ None = ap (λ (n : ℕ). slice_index_or (done ++ None ∷ later) n None) (place ∙ sym len) ∙ get_or-append_seam done None later None in
-      bind_ok (str_from here) (λ k. cond {A = Read ℕ} (is_some (slice_index_or (done ++ None ∷ later) (place_of names k.0) None)) (Err (fault_here kind.Repeated here)) (Ok (place_of names k.0, k.1))) (Some name, there) (str_read_back name lt here there at)
+      bind_ok (str_from here) (λ k. cond {A = Read ℕ} (is_some (slice_index_or (done ++ None ∷ later) (place_of names k.0) None)) (Err (fault_here kind.Repeated here)) (Ok (place_of names k.0, k.1))) (Some name, there) (str_read_back name (short_one name front rest (ap are_short (sym is) ∙ short)) here there at)
       ∙ ap (λ (o : Option D). cond {A = Read ℕ} (is_some o) (Err (fault_here kind.Repeated here)) (Ok (place_of names (Some name), there))) new
       ∙ ap (λ (n : ℕ). Ok (n, there)) place
 
@@ -208,8 +222,7 @@ module _ {D : Type 0} (names : List (List ℕ)) (distinct : is_distinct names �
       → ReadAs (entries_from (known_key_from names) (known_value_from names datum_from) (known_end_from required) (value_count values) (done ++ unread rest)) (pairs_bytes rest values) (done ++ ds)
   unfolding entries_from known_end_from
   entries_written n front [] done [] [] is len many w all here there at =
-      let same : here ≡ there = between_here [] here there at ∙ sym (between_there [] here there at ∙ ap (λ (k : ℕ). position k there.left) (let e : here.at + 0 ≡ here.at = omega arith in e)) in
-      ap (λ (b : Bool). cond {A = Read (List (Option D))} b (Ok (done ++ [], here)) (Err (fault_here kind.Missing here))) all ∙ ap (λ (q : Position). Ok (done ++ [], q)) same
+      ap (λ (b : Bool). cond {A = Read (List (Option D))} b (Ok (done ++ [], here)) (Err (fault_here kind.Missing here))) all ∙ ap (λ (q : Position). Ok (done ++ [], q)) (nothing_between here there at)
   entries_written n front [] done (d ∷ ds) [] is len many w all here there at = absurd w
   entries_written n front [] done ds (v ∷ vs) is len many w all here there at = absurd w
   entries_written n front (name ∷ rest) done ds [] is len many w all here there at = absurd w
@@ -232,11 +245,11 @@ module _ {D : Type 0} (names : List (List ℕ)) (distinct : is_distinct names �
       let room : n < length names = let e : length names ≡ length front + length (name ∷ rest) = ap length is ∙ length-append front (name ∷ rest) in omega arith in
       bind_ok (known_key_from names (done ++ None ∷ unread rest) here)
       (λ k. known_value_from names datum_from (done ++ None ∷ unread rest) k.0 k.1 >>= λ t. entries_from (known_key_from names) (known_value_from names datum_from) (known_end_from required) (value_count vs) t.0 t.1) (n, key.mid)
-      (key_written name front rest done (unread rest) is (many ∙ sym len) w.0 here key.mid key.first ∙ ap (λ (k : ℕ). Ok (k, key.mid)) len)
+      (key_written name front rest done (unread rest) is (many ∙ sym len) here key.mid key.first ∙ ap (λ (k : ℕ). Ok (k, key.mid)) len)
       ∙ bind_ok (known_value_from names datum_from (done ++ None ∷ unread rest) n key.mid) (λ t. entries_from (known_key_from names) (known_value_from names datum_from) (known_end_from required) (value_count vs) t.0 t.1) (done ++ Some d ∷ unread rest, pair.mid)
-      (value_written n bytes d done (unread rest) room many w.1 key.mid pair.mid key.second)
+      (value_written n bytes d done (unread rest) room many w.0 key.mid pair.mid key.second)
       ∙ ap (λ (s : List (Option D)). entries_from (known_key_from names) (known_value_from names datum_from) (known_end_from required) (value_count vs) s pair.mid) (sym more)
-      ∙ entries_written (suc n) (front ++ name ∷ []) rest (done ++ Some d ∷ []) ds vs names_more (omega (arith, length-append front (name ∷ []))) (omega (arith, length-append done (Some d ∷ []))) w.2
+      ∙ entries_written (suc n) (front ++ name ∷ []) rest (done ++ Some d ∷ []) ds vs names_more (omega (arith, length-append front (name ∷ []))) (omega (arith, length-append done (Some d ∷ []))) w.1
       (ap (λ (s : List (Option D)). list_all is_some (take required s)) seam ∙ all) pair.mid there pair.second
       ∙ ap (λ (s : List (Option D)). Ok (s, there)) seam
 
