@@ -49,7 +49,7 @@ not_asked i here f le p = p
 asked_behind : (i : ℕ) → StandBehind (asked i)
 asked_behind i here f p = absurd p
 
-differ : is_distinct info_keys ≡ true
+pub differ : is_distinct info_keys ≡ true
 differ = refl
 
 abbrev Table : MapRules
@@ -82,7 +82,7 @@ info_said ps = λ i. record {
   subdir = unwrap_or (flat (value_at (codes "subdir") ps) i) [];
 }
 
-info_is : (here : Position) → info_from here ≡ turned info_read (known_map_from info_keys 0 info_datum_from here)
+pub info_is : (here : Position) → info_from here ≡ turned info_read (known_map_from info_keys 0 info_datum_from here)
 unfolding info_from info_end_from
 info_is here = known_map_turned info_keys 0 info_datum_from info_read here
 

@@ -8,3 +8,5 @@ pub mod InfoLemmas
 pub mod ListedLemmas
 pub mod IndexLemmas
 pub mod LookupLemmas
+pub mod WritingLoop
+pub mod WrittenLemmas

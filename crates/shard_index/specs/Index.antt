@@ -12,6 +12,7 @@ use Rattle.mp_codec.specs.Value.{Value, Pairs, pairs_of, str_of}
 use Rattle.mp_codec.specs.Spelling.{Spells, Lies}
 use Rattle.mp_codec.specs.Fault.{Faults, no_fault, fault_here, TextFault, MapRules, MapFault, BytesFault}
 use Rattle.mp_codec.specs.Keys.{is_key, value_at, has_key, RepeatedKey, MissingKey}
+use Rattle.shard_index.specs.declared.writing.IndexRow.{IndexRow}
 use Rattle.shard_index.specs.Digests.{digest_of, DigestFault}
 use Rattle.shard_index.specs.Version.{VersionFault}
 use Rattle.shard_index.specs.Info.{Info, info_of, InfoFault}
@@ -19,9 +20,8 @@ use Rattle.shard_index.specs.Info.{Info, info_of, InfoFault}
 -- ---- what an index says
 
 -- a name that is listed, and the digest of its shard
-pub record Listed : Type 0 where
-  pub name : List ℕ
-  pub digest : Digest
+abbrev pub Listed : Type 0
+Listed = IndexRow
 
 -- what an index says: its info, and the names that it lists, ascending
 pub record Contents : Type 0 where

@@ -6,6 +6,7 @@ pub mod Names
 pub mod Reading
 pub mod Found
 pub mod Seen
+pub mod Writing
 pub use Rattle.mp_codec.specs.Value
 pub use Rattle.mp_codec.specs.Spelling
 pub use Rattle.mp_codec.specs.Fault

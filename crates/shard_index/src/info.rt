@@ -15,10 +15,10 @@ use std::alloc::{AllocError, Global};
 use std::marker::Model;
 
 // The base of the packages where none is given.
-const DEFAULT_BASE: &str = "./";
+pub(crate) const DEFAULT_BASE: &str = "./";
 
 // The base of the shards where none is given.
-const DEFAULT_SHARDS_BASE: &str = "./shards/";
+pub(crate) const DEFAULT_SHARDS_BASE: &str = "./shards/";
 
 // Where the packages and the shards of a subdir stand, and the subdir's name.
 #[derive(Debug, Drop)]

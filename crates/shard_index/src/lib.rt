@@ -9,6 +9,7 @@
 mod digest;
 mod index;
 mod info;
+mod laws;
 mod listing;
 mod names;
 mod reading;
@@ -16,6 +17,9 @@ mod refusal;
 #[cfg(test)]
 mod tests;
 mod version;
+mod writing;
 
 pub use index::Index;
+pub use laws::{a_written_index_is_read, bytes_are_one_index};
 pub use refusal::IndexRefusal;
+pub use writing::{IndexRow, write_index};

@@ -2,6 +2,8 @@
 
 use crate::index::Index;
 use crate::refusal::IndexRefusal;
+use crate::writing::{IndexRow, write_index};
+use conda_name::Name;
 use digest_gate::Digest;
 use mp_codec::FaultKind::{
     self, Missing, NotText, Repeated, Reserved, Short, Trailing, Version, Wrong,
@@ -186,5 +188,52 @@ fn answers_each_fault_with_its_place(rt: HostRuntime) -> Result<(), Fail> {
         let outcome = Index::read(rt.alloc(), bytes);
         assert_eq!(rt; in_parts(outcome), Some((kind, at)), "{bytes:?}");
     }
+    Ok(())
+}
+
+// The index of no names of the subdir `noarch`, up to the number of names, 76 bytes with it.
+const NOARCH: &[u8] = b"\x83\xa7version\x01\xa4info\x83\xa8base_url\xa2./\
+    \xafshards_base_url\xa9./shards/\xa6subdir\xa6noarch\xa6shards";
+
+// The row of a name whose digest is that of some bytes.
+fn row(alloc: Global, name: &str, bytes: &[u8]) -> Result<IndexRow, Fail> {
+    match Name::read(alloc, name) {
+        Ok(name) => Ok(IndexRow {
+            name,
+            digest: Digest::of(bytes),
+        }),
+        Err(_) => Err("it is a name".into()),
+    }
+}
+
+#[test]
+fn an_index_without_names_has_76_bytes(rt: HostRuntime) -> Result<(), Fail> {
+    let mut out = Vec::new(rt.alloc());
+    write_index("noarch", &[], &mut out)?;
+    let mut expected = NOARCH.to_vec(rt.alloc())?;
+    expected.push(0x80)?;
+    assert_eq!(rt; out.len(), 76);
+    assert_eq!(rt; out.as_slice(), expected.as_slice());
+    Ok(())
+}
+
+#[test]
+fn what_is_written_is_read(rt: HostRuntime) -> Result<(), Fail> {
+    let mut rows = Vec::new(rt.alloc());
+    rows.push(row(rt.alloc(), "a", b"abc")?)?;
+    rows.push(row(rt.alloc(), "b", b"")?)?;
+    let mut out = b"kept".to_vec(rt.alloc())?;
+    write_index("noarch", &rows, &mut out)?;
+    let mut expected = b"kept".to_vec(rt.alloc())?;
+    expected.extend_from_slice(NOARCH)?;
+    expected.extend_from_slice(b"\x82\xa1a\xc4\x20")?;
+    expected.extend_from_slice(&Digest::of(b"abc").0)?;
+    expected.extend_from_slice(b"\xa1b\xc4\x20")?;
+    expected.extend_from_slice(&Digest::of(b"").0)?;
+    assert_eq!(rt; out.as_slice(), expected.as_slice());
+    let index = read(rt.alloc(), out.get(4..).unwrap_or_default())?;
+    assert_eq!(rt; index.len(), 2);
+    assert_eq!(rt; index.subdir(), "noarch");
+    assert!(rt; index.lookup("b") == Some(Digest::of(b"")));
     Ok(())
 }
