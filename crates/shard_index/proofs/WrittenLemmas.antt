@@ -225,3 +225,23 @@ sorted_again listed up k d low high =
 pub read_again : (subdir : List ℕ) (listed : List Listed) → IsWritable subdir listed → is_utf8 subdir ≡ true → All IsEntry listed → IndexOf (index_bytes subdir listed) (contents_written subdir listed)
 read_again subdir listed w utf8 are =
     index_found (index_bytes subdir listed) (contents_written subdir listed).info listed listed (contents_back subdir listed w utf8 are) (sorted_again listed w.ascending) (λ x. refl)
+
+-- ---- indexes that can be written
+
+none_short : All (λ (x : Listed). IsShort x.name) []
+none_short i d lt = absurd (omega arith)
+
+-- no names
+pub none_writable : (subdir : List ℕ) → IsShort subdir → IsWritable subdir []
+unfolding IsStrictlySortedBy
+none_writable subdir short = record { ascending = tt; few = omega arith; subdir_short = short; names_short = none_short }
+
+-- two names that ascend
+pub two_writable : (subdir : List ℕ) (x y : Listed) → IsShort subdir → IsShort x.name → IsShort y.name → slice_cmp nat_cmp x.name y.name ≡ Less → IsWritable subdir (x ∷ y ∷ [])
+unfolding IsStrictlySortedBy
+two_writable subdir x y short first second less = record { ascending = ((less, tt), (tt, tt)); few = omega arith; subdir_short = short; names_short = both }
+  where
+    both : All (λ (x : Listed). IsShort x.name) (x ∷ y ∷ [])
+    both zero d lt = first
+    both (suc zero) d lt = second
+    both (suc (suc i)) d lt = absurd (omega arith)

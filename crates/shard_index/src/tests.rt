@@ -1,5 +1,8 @@
 //! Indexes worked out by hand: what they say, what is skipped in them, and each fault with its place.
 
+ghost use Rattle.std.specs.Prelude.{◌≡◌, IfOk};
+ghost use Rattle.conda_name.specs.Name.{IsName};
+
 use crate::index::Index;
 use crate::refusal::IndexRefusal;
 use crate::writing::{IndexRow, write_index};
@@ -196,7 +199,10 @@ const NOARCH: &[u8] = b"\x83\xa7version\x01\xa4info\x83\xa8base_url\xa2./\
     \xafshards_base_url\xa9./shards/\xa6subdir\xa6noarch\xa6shards";
 
 // The row of a name whose digest is that of some bytes.
-fn row(alloc: Global, name: &str, bytes: &[u8]) -> Result<IndexRow, Fail> {
+fn row(alloc: Global, name: &str, bytes: &[u8]) -> Result<IndexRow, Fail>
+    requires { IsName name.now }
+    ensures { IfOk result (λ row. row.name ≡ name.now) }
+{
     match Name::read(alloc, name) {
         Ok(name) => Ok(IndexRow {
             name,
