@@ -8,6 +8,7 @@
 
 mod files;
 mod laws;
+mod leaf;
 mod names;
 mod reading;
 mod refusal;
@@ -17,6 +18,7 @@ mod tests;
 mod writing;
 
 pub use laws::a_written_shard_is_read;
+pub use leaf::{Leaf, LeafRefusal};
 pub use refusal::ShardRefusal;
 pub use shard::{FileRecord, Shard, ShardRow};
 pub use writing::{can_write_shard, write_shard};

@@ -40,8 +40,8 @@ pub struct ShardRow<'a> {
 /// The rows of some bytes, with the bytes. Contracts see both.
 #[derive(Debug, Drop)]
 pub struct Shard {
-    bytes: Vec<u8>,
-    rows: Vec<FileRecord>,
+    pub(crate) bytes: Vec<u8>,
+    pub(crate) rows: Vec<FileRecord>,
 }
 
 impl Model for Shard {
