@@ -3,6 +3,7 @@ pub mod Digests
 pub mod Record
 pub mod View
 pub mod Reading
+pub mod Json
 pub use Rattle.mp_codec.specs.Value
 pub use Rattle.mp_codec.specs.Spelling
 pub use Rattle.mp_codec.specs.Fault

@@ -5,6 +5,7 @@
 //! nothing wrong, and a fault is the first one.
 #![tactic(auto)]
 
+mod json;
 mod reading;
 mod record;
 mod refusal;
@@ -13,6 +14,7 @@ mod tests;
 mod value;
 mod view;
 
+pub use json::JsonRefusal;
 pub use record::PackageRecord;
 pub use refusal::RecordRefusal;
 pub use view::RecordView;
