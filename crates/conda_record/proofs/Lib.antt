@@ -3,3 +3,5 @@ pub mod TextLoop
 pub mod ValueLemmas
 pub mod RecordLemmas
 pub mod RefusalLemmas
+pub mod WrittenLemmas
+pub mod CountLemmas

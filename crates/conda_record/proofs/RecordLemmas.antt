@@ -89,7 +89,7 @@ not_asked i here f le p = let lt : i < 3 = p.0 in omega arith
 asked_behind : (i : ℕ) → StandBehind (asked i)
 asked_behind i here f p = text_behind here f p.1
 
-differ : is_distinct record_keys ≡ true
+pub differ : is_distinct record_keys ≡ true
 differ = refl
 
 -- ---- what is asked, by the place of a key and by its name
@@ -170,7 +170,7 @@ fields_said ps = λ i. record {
 abbrev pub IsRecord : Fields → Value → Type 0
 IsRecord fields v = fields ≡ fields_of v
 
-record_is : (here : Position) → record_from here ≡ turned fields_from (known_map_from record_keys required datum_from here)
+pub record_is : (here : Position) → record_from here ≡ turned fields_from (known_map_from record_keys required datum_from here)
 unfolding record_from end_from
 record_is here = known_map_turned record_keys required datum_from fields_from here
 

@@ -2,10 +2,12 @@
 //!
 //! Contracts see a `PackageRecord` as its `Fields` (`specs/Record`), and a `RecordView` as those of
 //! its record (`specs/View`). The layer above uses: what `read` gives stands at the cursor with
-//! nothing wrong, and a fault is the first one.
+//! nothing wrong, a fault is the first one, and what `write` appends is read again as its record
+//! (`specs/Writing`).
 #![tactic(auto)]
 
 mod json;
+mod laws;
 mod reading;
 mod record;
 mod refusal;
@@ -13,8 +15,10 @@ mod refusal;
 mod tests;
 mod value;
 mod view;
+mod writing;
 
 pub use json::JsonRefusal;
+pub use laws::a_written_record_is_read;
 pub use record::PackageRecord;
 pub use refusal::RecordRefusal;
 pub use view::RecordView;

@@ -36,7 +36,7 @@ const REQUIRED: &[u8] = b"\x83\xa4name\xa1a\xa7version\xa11\xa5build\xa10";
 
 // Bytes behind a nil, so that places are counted from the first byte, and the fault in the record
 // that stands behind it.
-const FAULTS: [(&[u8], FaultKind, u64); 27] = [
+const FAULTS: [(&[u8], FaultKind, u64); 32] = [
     // The bytes end within the head, a key, a value, or in front of a pair.
     (b"\xc0", Short, 1),
     (b"\xc0\xde\x00", Short, 3),
@@ -47,10 +47,14 @@ const FAULTS: [(&[u8], FaultKind, u64); 27] = [
     (b"\xc0\x81\xa4size\xcf\x00", Short, 9),
     (b"\xc0\x81\xa7depends\x92\xa1a", Short, 13),
     (b"\xc0\x81\xa3md5\xc4\x10\x00", Short, 9),
+    (b"\xc0\x81\xa6sha256\xd9\x40c", Short, 12),
     // The byte that is never used, as the record, a key, and within values of every depth.
     (b"\xc0\xc1", Reserved, 1),
     (b"\xc0\x81\xc1\x00", Reserved, 2),
     (b"\xc0\x81\xa4name\xc1", Reserved, 7),
+    (b"\xc0\x81\xa7version\xc1", Reserved, 10),
+    (b"\xc0\x81\xa5build\xc1", Reserved, 8),
+    (b"\xc0\x81\xa3md5\xc1", Reserved, 6),
     (b"\xc0\x81\xa4size\xc1", Reserved, 7),
     (b"\xc0\x81\xa7depends\x92\x07\xc1", Reserved, 12),
     (b"\xc0\x81\x01\x81\x91\xc1\x00", Reserved, 5),
@@ -65,6 +69,7 @@ const FAULTS: [(&[u8], FaultKind, u64); 27] = [
     (b"\xc0\x81\xa5build\xc4\x010", Wrong, 8),
     // Required keys whose values are no UTF-8.
     (b"\xc0\x81\xa4name\xa1\xff", NotText, 7),
+    (b"\xc0\x81\xa7version\xa1\xff", NotText, 10),
     (b"\xc0\x81\xa5build\xd9\x02\xc3\x28", NotText, 8),
     // A required key is missing: the place is behind the map.
     (b"\xc0\x80", Missing, 2),
@@ -78,6 +83,36 @@ const FAULTS: [(&[u8], FaultKind, u64); 27] = [
     (b"\xc0\x84\xa4name\xa1a\xa4name\xa1a", Repeated, 9),
     (b"\xc0\x83\xa4size\x07\xd9\x04size\xc1", Repeated, 8),
     (b"\xc0\x82\xa7license\xc0\xa7license\xa1x", Repeated, 11),
+];
+
+// Records, and what msgpack of Python writes for their fields, in the order of the keys.
+const WRITTEN: [(&[u8], &[u8]); 3] = [
+    (
+        ALL_KEYS,
+        b"\x8d\xa4name\xa5numpy\
+        \xa7version\xa61.26.0\
+        \xa5build\xa6py312_\
+        \xacbuild_number\xcd\x01\x02\
+        \xa7depends\x92\xacpython >=3.9\xa4blas\
+        \xaaconstrains\x91\xa5a <\xc3\xa9\
+        \xa6subdir\xa8linux-64\
+        \xa3md5\xc4\x10\xab\xab\xab\xab\xab\xab\xab\xab\xab\xab\xab\xab\xab\xab\xab\xab\
+        \xa6sha256\xc4\x20\xcd\xcd\xcd\xcd\xcd\xcd\xcd\xcd\xcd\xcd\xcd\xcd\xcd\xcd\xcd\xcd\
+        \xcd\xcd\xcd\xcd\xcd\xcd\xcd\xcd\xcd\xcd\xcd\xcd\xcd\xcd\xcd\xcd\
+        \xa4size\xce\x00\x01\x00\x00\
+        \xa9timestamp\xcf\x00\x00\x01\x8a\xbc\xde\xf0\x12\
+        \xa7license\xacBSD-3-Clause\
+        \xa6noarch\xa6python",
+    ),
+    (
+        REQUIRED,
+        b"\x85\xa4name\xa1a\xa7version\xa11\xa5build\xa10\xacbuild_number\x00\xa7depends\x90",
+    ),
+    // Optional keys whose values are of another kind are left out, and so is an empty list.
+    (
+        b"\x86\xa3md5\xa1x\xaaconstrains\x90\xa6noarch\xa0\xa5build\xa0\xa4name\xa0\xa7version\xa0",
+        b"\x86\xa4name\xa0\xa7version\xa0\xa5build\xa0\xacbuild_number\x00\xa7depends\x90\xa6noarch\xa0",
+    ),
 ];
 
 // Each optional key, as it is spelled.
@@ -249,6 +284,33 @@ fn a_digest_is_read_from_bytes_or_digits(rt: HostRuntime) -> Result<(), Fail> {
     for value in missing {
         let record = with_pair(alloc, &[key, value])?;
         assert_eq!(rt; record.view().md5(), None, "{value:?}");
+    }
+    Ok(())
+}
+
+#[test]
+fn writes_what_another_program_writes_behind_what_stands(rt: HostRuntime) -> Result<(), Fail> {
+    let alloc = rt.alloc();
+    for (bytes, expected) in WRITTEN {
+        let record = read(alloc, &mut Cursor::new(bytes))?;
+        let mut out = b"\xc0".to_vec(alloc)?;
+        if !record.is_writable() {
+            return Err("a record that was read can't be written".into());
+        }
+        record.write(&mut out)?;
+        assert_eq!(rt;
+            out.as_slice().split_first(),
+            Some((&0xc0, expected)),
+            "{bytes:?}"
+        );
+        let mut again = Cursor::new(expected);
+        let mut twice = Vec::new(alloc);
+        let second = read(alloc, &mut again)?;
+        if second.is_writable() {
+            second.write(&mut twice)?;
+        }
+        assert!(rt; again.is_end());
+        assert_eq!(rt; twice.as_slice(), expected, "{bytes:?}");
     }
     Ok(())
 }

@@ -16,3 +16,5 @@ pub mod EntryLemmas
 pub mod MappedLemmas
 pub mod OwedLemmas
 pub mod WritingLemmas
+pub mod WrittenLemmas
+pub mod AppendLemmas

@@ -27,4 +27,4 @@ pub use laws::{
 };
 pub use reading::utf8_text;
 pub use text::Text;
-pub use writing::{put_array, put_bin, put_map, put_str, put_uint};
+pub use writing::{cut_back, put_array, put_bin, put_map, put_str, put_uint};

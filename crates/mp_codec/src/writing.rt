@@ -146,3 +146,21 @@ fn put_payload(out: &mut Vec<u8>, old: usize, payload: &[u8]) -> Result<(), Allo
         }
     }
 }
+
+/// The outcome of several writers in a row, which began when the vector had this length. Where one
+/// failed, the vector is cut back to that length.
+pub fn cut_back(
+    out: &mut Vec<u8>,
+    old: usize,
+    outcome: Result<(), AllocError>,
+) -> Result<(), AllocError>
+    requires { old ≤ vec_len out.old }
+    ensures same { result ≡ outcome }
+    ensures ok { OnOk outcome (out.new.items ≡ out.old.items) }
+    ensures cut { OnErr outcome (out.new.items ≡ take old out.old.items) }
+{
+    if outcome.is_err() {
+        out.truncate(old);
+    }
+    outcome
+}

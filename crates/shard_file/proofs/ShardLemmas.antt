@@ -59,7 +59,7 @@ not_asked i here f le p = let lt : i < 2 = p.0 in omega arith
 asked_behind : (i : ℕ) → StandBehind (asked i)
 asked_behind i here f p = files_behind here f p.1
 
-differ : is_distinct shard_keys ≡ true
+pub differ : is_distinct shard_keys ≡ true
 differ = refl
 
 -- ---- what is asked, by the place of a key and by its name
@@ -100,7 +100,7 @@ abbrev pub AreAllRows : List Row → Value → Type 0
 AreAllRows rows v = rows ≡ rows_of v
 
 -- all rows of what was read
-abbrev all_rows : List (Option (List Row)) → List Row
+abbrev pub all_rows : List (Option (List Row)) → List Row
 all_rows s = rows_at s 0 ++ rows_at s 1
 
 rows_said : (ps : Pairs) → all_rows (data_of member 0 shard_keys ps) ≡ rows_in false (value_at packages_key ps) ++ rows_in true (value_at conda_key ps)
@@ -112,7 +112,7 @@ rows_said ps = go (value_at packages_key ps) (value_at conda_key ps) (value_at (
     go None (Some w) r = refl
     go None None r = refl
 
-shard_is : (here : Position) → shard_from here ≡ turned all_rows (known_map_from shard_keys 0 member_from here)
+pub shard_is : (here : Position) → shard_from here ≡ turned all_rows (known_map_from shard_keys 0 member_from here)
 unfolding shard_from shard_end_from
 shard_is here = known_map_turned shard_keys 0 member_from all_rows here
 

@@ -1,11 +1,14 @@
 pub mod Rows
 pub mod Seen
+pub mod Leaf
 pub mod Names
 pub mod Reading
 pub mod Found
+pub mod Writing
 pub use Rattle.mp_codec.specs.Value
 pub use Rattle.mp_codec.specs.Spelling
 pub use Rattle.mp_codec.specs.Fault
 pub use Rattle.mp_codec.specs.Keys
 pub use Rattle.conda_record.specs.Record
 pub use Rattle.conda_record.specs.View
+pub use Rattle.digest_gate.specs.Digest

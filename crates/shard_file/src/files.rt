@@ -8,7 +8,7 @@ ghost use Rattle.shard_file.specs.Names.{has_name, new_name_from};
 ghost use Rattle.shard_file.specs.Reading.{files_after, files_from};
 
 use crate::names;
-use crate::shard::FileRow;
+use crate::shard::FileRecord;
 use conda_record::{PackageRecord, RecordRefusal};
 use mp_codec::{Cursor, FaultKind, FormatFault, Text};
 use std::alloc::Global;
@@ -20,7 +20,7 @@ pub(crate) fn files(
     alloc: Global,
     cur: &mut Cursor<'_>,
     conda: bool,
-) -> Result<Vec<FileRow>, RecordRefusal>
+) -> Result<Vec<FileRecord>, RecordRefusal>
     ensures { Gives (λ rows. (rows.items, cur.new)) fault_of result (files_from conda cur.old) }
 {
     let files = cur.map_len()?;
@@ -33,7 +33,7 @@ fn rows_of_files(
     cur: &mut Cursor<'_>,
     conda: bool,
     files: u32,
-) -> Result<Vec<FileRow>, RecordRefusal>
+) -> Result<Vec<FileRecord>, RecordRefusal>
     ensures { Gives (λ rows. (rows.items, cur.new)) fault_of result
         (files_after conda files [] cur.old) }
 {
@@ -41,10 +41,10 @@ fn rows_of_files(
     let mut names = BTreeSet::new(alloc);
     for _ in 0..files {
         let name = new_name(cur, &mut names)?;
-        let row = FileRow {
+        let row = FileRecord {
             file: Text::copy(alloc, name)?,
             conda,
-            record: PackageRecord::read(alloc, cur)?,
+            value: PackageRecord::read(alloc, cur)?,
         };
         rows.push(row)?;
     }

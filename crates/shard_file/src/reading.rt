@@ -11,7 +11,7 @@ ghost use Rattle.shard_file.specs.Found.{place, known, SortsRows};
 ghost use Rattle.shard_file.specs.Reading.{member_from, shard_end_from, pairs_from, shard_from, rows_from};
 
 use crate::files::files;
-use crate::shard::FileRow;
+use crate::shard::FileRecord;
 use conda_record::RecordRefusal;
 use mp_codec::{Cursor, FaultKind, FormatFault};
 use std::alloc::{AllocError, Global};
@@ -30,8 +30,8 @@ enum Key {
 // was met.
 #[derive(Drop)]
 struct Found {
-    packages: Option<Vec<FileRow>>,
-    conda: Option<Vec<FileRow>>,
+    packages: Option<Vec<FileRecord>>,
+    conda: Option<Vec<FileRecord>>,
     removed: bool,
 }
 
@@ -102,7 +102,7 @@ impl Found {
 
     // All rows, those of packages first.
     #[tactic(auto, unfolding(mp_codec::specs::Maps::known_end_from, crate::specs::Reading::shard_end_from))]
-    fn finish(self, alloc: Global, cur: &Cursor<'_>) -> Result<Vec<FileRow>, RecordRefusal>
+    fn finish(self, alloc: Global, cur: &Cursor<'_>) -> Result<Vec<FileRecord>, RecordRefusal>
         ensures { Gives (λ rows. (rows.items, cur.now)) fault_of result
             (shard_end_from (known self) cur.now) }
     {
@@ -134,7 +134,7 @@ fn pairs_of_shard(
     alloc: Global,
     cur: &mut Cursor<'_>,
     pairs: u32,
-) -> Result<Vec<FileRow>, RecordRefusal>
+) -> Result<Vec<FileRecord>, RecordRefusal>
     ensures { Gives (λ rows. (rows.items, cur.new)) fault_of result
         (pairs_from pairs (unread shard_keys) cur.old) }
 {
@@ -148,7 +148,7 @@ fn pairs_of_shard(
 
 // The rows of the shard that stands at the cursor.
 #[tactic(auto, unfolding(mp_codec::specs::Maps::map_from, crate::specs::Reading::shard_from))]
-fn shard_here(alloc: Global, cur: &mut Cursor<'_>) -> Result<Vec<FileRow>, RecordRefusal>
+fn shard_here(alloc: Global, cur: &mut Cursor<'_>) -> Result<Vec<FileRecord>, RecordRefusal>
     ensures { Gives (λ rows. (rows.items, cur.new)) fault_of result (shard_from cur.old) }
 {
     let pairs = cur.map_len()?;
@@ -156,7 +156,7 @@ fn shard_here(alloc: Global, cur: &mut Cursor<'_>) -> Result<Vec<FileRow>, Recor
 }
 
 // The rows of the shard that some bytes are, in the order of their file names.
-pub(crate) fn sorted_rows(alloc: Global, bytes: &[u8]) -> Result<Vec<FileRow>, RecordRefusal>
+pub(crate) fn sorted_rows(alloc: Global, bytes: &[u8]) -> Result<Vec<FileRecord>, RecordRefusal>
     ensures { SortsRows result (rows_from bytes.now) }
 {
     let mut rows = rows(alloc, bytes)?;
@@ -166,7 +166,7 @@ pub(crate) fn sorted_rows(alloc: Global, bytes: &[u8]) -> Result<Vec<FileRow>, R
 
 // The rows of the shard that some bytes are, in the order in which they stand.
 #[tactic(auto, unfolding(mp_codec::specs::Maps::all_from, crate::specs::Reading::rows_from))]
-fn rows(alloc: Global, bytes: &[u8]) -> Result<Vec<FileRow>, RecordRefusal>
+fn rows(alloc: Global, bytes: &[u8]) -> Result<Vec<FileRecord>, RecordRefusal>
     ensures { Gives (λ rows. rows.items) fault_of result (rows_from bytes.now) }
 {
     let mut cur = Cursor::new(bytes);
@@ -181,7 +181,7 @@ fn rows(alloc: Global, bytes: &[u8]) -> Result<Vec<FileRow>, RecordRefusal>
 }
 
 // Puts rows in the order of their file names; rows of one name stay as they stood.
-fn sort(rows: &mut Vec<FileRow>) -> Result<(), AllocError>
+fn sort(rows: &mut Vec<FileRecord>) -> Result<(), AllocError>
     ensures ascending { OnOk result (IsSortedBy file_lt rows.new.items) }
     ensures in_order { IsStableBy file_lt rows.old.items rows.new.items }
 {

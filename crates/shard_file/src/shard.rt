@@ -7,20 +7,23 @@ use mp_codec::Text;
 use std::alloc::Global;
 use std::marker::Model;
 
-// A file with its record.
+/// A package file with its record. Contracts see a row.
 #[derive(Debug, Drop)]
-pub(crate) struct FileRow {
-    pub(crate) file: Text,
-    pub(crate) conda: bool,
-    pub(crate) record: PackageRecord,
+pub struct FileRecord {
+    /// The name of the package file.
+    pub file: Text,
+    /// Whether it stands in `packages.conda`, and not in `packages`.
+    pub conda: bool,
+    /// The record of the file.
+    pub value: PackageRecord,
 }
 
-impl Model for FileRow {
+impl Model for FileRecord {
     ghost use Rattle.shard_file.specs.Rows.{Row};
 
     ghost Value = { Row };
 
-    ghost view = { λ row. record { file = row.file; conda = row.conda; fields = row.record } };
+    ghost view = { λ row. record { file = row.file; conda = row.conda; fields = row.value } };
 }
 
 /// A row of a shard, to look at: a file and its record.
@@ -37,8 +40,8 @@ pub struct ShardRow<'a> {
 /// The rows of some bytes, with the bytes. Contracts see both.
 #[derive(Debug, Drop)]
 pub struct Shard {
-    bytes: Vec<u8>,
-    rows: Vec<FileRow>,
+    pub(crate) bytes: Vec<u8>,
+    pub(crate) rows: Vec<FileRecord>,
 }
 
 impl Model for Shard {
@@ -108,7 +111,7 @@ impl Shard {
     }
 }
 
-impl FileRow {
+impl FileRecord {
     ghost use Rattle.std.specs.Prelude.{◌≡◌};
     ghost use Rattle.shard_file.specs.Seen.{row_seen};
 
@@ -119,7 +122,7 @@ impl FileRow {
         ShardRow {
             file: self.file.as_str(),
             conda: self.conda,
-            view: self.record.view(),
+            view: self.value.view(),
         }
     }
 }

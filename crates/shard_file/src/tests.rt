@@ -1,8 +1,11 @@
 //! Shards worked out by hand: their order, what is skipped in them, and each fault with its place.
 
 use crate::refusal::ShardRefusal;
-use crate::shard::Shard;
+use crate::shard::{FileRecord, Shard};
+use crate::writing::{can_write_shard, write_shard};
+use conda_record::PackageRecord;
 use mp_codec::FaultKind::{self, Missing, NotText, Repeated, Reserved, Short, Trailing, Wrong};
+use mp_codec::{Cursor, Text};
 use std::alloc::Global;
 use std::test::Fail;
 
@@ -19,7 +22,7 @@ const ONE_FILE: &[u8] = b"\x81\xaepackages.conda\x81\xaba-1-0.conda\
     \x83\xa4name\xa1a\xa7version\xa11\xa5build\xa10";
 
 // A shard, the kind of its first fault, and the place.
-const FAULTS: [(&[u8], FaultKind, u64); 38] = [
+const FAULTS: [(&[u8], FaultKind, u64); 46] = [
     // The bytes end within the head, a key, a value, or in front of a pair.
     (b"", Short, 0),
     (b"\xdf\x00\x00", Short, 3),
@@ -32,6 +35,8 @@ const FAULTS: [(&[u8], FaultKind, u64); 38] = [
     (b"\x81\xa8packages\x81\xa1a\x81\xa4na", Short, 17),
     (b"\x81\xa7removed\x91", Short, 10),
     (b"\x81\xa1x\xc6\xff\xff\xff\xff\x00", Short, 9),
+    (b"\x81\xa8packages\x81\xa1a\x81\xa4size\xcd\x00", Short, 21),
+    (b"\x81\xa8packages\x81\xa1a\x81\xa3md5\xc4\x10", Short, 20),
     // More pairs are claimed than there are bytes.
     (
         b"\xdf\xff\xff\xff\xff\x00\x00\x00\x00\x00\x00\x00\x00\x00\x00\x00\x00\x00\x00\x00",
@@ -45,6 +50,7 @@ const FAULTS: [(&[u8], FaultKind, u64); 38] = [
     (b"\x81\xa8packages\xc1", Reserved, 10),
     (b"\x81\xa8packages\x81\xc1\x80", Reserved, 11),
     (b"\x81\xa8packages\x81\xa1a\xc1", Reserved, 13),
+    (b"\x81\xa8packages\x81\xa1a\x81\xa3md5\xc1", Reserved, 18),
     (b"\x81\xa7removed\x91\x91\xc1", Reserved, 11),
     // File names and required texts that are no UTF-8.
     (b"\x81\xa8packages\x81\xa1\xff\x80", NotText, 11),
@@ -52,6 +58,11 @@ const FAULTS: [(&[u8], FaultKind, u64); 38] = [
         b"\x81\xaepackages.conda\x81\xa1a\x81\xa4name\xa1\xff",
         NotText,
         25,
+    ),
+    (
+        b"\x81\xa8packages\x81\xa1a\x81\xa7version\xa1\xff",
+        NotText,
+        22,
     ),
     // Values of other kinds: the shard, a map of files, a file name, a record, a required text.
     (b"\x90", Wrong, 0),
@@ -61,6 +72,8 @@ const FAULTS: [(&[u8], FaultKind, u64); 38] = [
     (b"\x81\xa8packages\x81\x01\x80", Wrong, 11),
     (b"\x81\xa8packages\x81\xc4\x01a\x80", Wrong, 11),
     (b"\x81\xa8packages\x81\xa1a\xa1a", Wrong, 13),
+    (b"\x81\xa8packages\x81\xa1a\x81\xa4name\xc4\x01a", Wrong, 19),
+    (b"\x81\xa8packages\x81\xa1a\x81\xa7version\x01", Wrong, 22),
     (b"\x81\xa8packages\x81\xa1a\x81\xa5build\x00", Wrong, 20),
     // A record without a required key: the place is behind the record.
     (b"\x81\xaepackages.conda\x81\xa1a\x80", Missing, 20),
@@ -69,6 +82,16 @@ const FAULTS: [(&[u8], FaultKind, u64); 38] = [
     // Known keys and file names that stand twice.
     (b"\x82\xa8packages\x80\xa8packages\x80", Repeated, 11),
     (b"\x82\xa7removed\xc0\xd9\x07removed\xc1", Repeated, 10),
+    (
+        b"\x81\xa8packages\x81\xa1a\x82\xa4name\xa1a\xa4name\xa1b",
+        Repeated,
+        21,
+    ),
+    (
+        b"\x81\xa8packages\x81\xa1a\x82\xa4size\x00\xa4size\x00",
+        Repeated,
+        20,
+    ),
     (
         b"\x81\xa8packages\x82\
         \xa1a\x83\xa4name\xa1a\xa7version\xa11\xa5build\xa10\xda\x00\x01a\xc0",
@@ -80,6 +103,35 @@ const FAULTS: [(&[u8], FaultKind, u64); 38] = [
     (b"\x80\xc1", Trailing, 1),
     (b"\x81\xa7removed\x90\xa8packages\x80", Trailing, 10),
     (b"\x81\xa1x\x90\x80", Trailing, 4),
+];
+
+// Files, each by its name, whether it stands in packages.conda, and its record, and what msgpack
+// of Python writes for them.
+const WRITTEN: [(&[(&str, bool, &[u8])], &[u8]); 3] = [
+    (&[], EMPTY),
+    (
+        &[("a-1-0.conda", true, A)],
+        b"\x83\xa8packages\x80\xaepackages.conda\x81\xaba-1-0.conda\
+        \x85\xa4name\xa1a\xa7version\xa11\xa5build\xa10\xacbuild_number\x00\xa7depends\x90\
+        \xa7removed\x90",
+    ),
+    (
+        &[("a", false, A), ("a", true, B), ("b", false, B)],
+        b"\x83\xa8packages\x82\
+        \xa1a\x85\xa4name\xa1a\xa7version\xa11\xa5build\xa10\xacbuild_number\x00\xa7depends\x90\
+        \xa1b\x85\xa4name\xa1b\xa7version\xa11\xa5build\xa10\xacbuild_number\x00\xa7depends\x90\
+        \xaepackages.conda\x81\
+        \xa1a\x85\xa4name\xa1b\xa7version\xa11\xa5build\xa10\xacbuild_number\x00\xa7depends\x90\
+        \xa7removed\x90",
+    ),
+];
+
+// Files that can't be written as they stand: the second is not behind the first.
+const OUT_OF_ORDER: [&[(&str, bool, &[u8])]; 4] = [
+    &[("b", false, A), ("a", false, A)],
+    &[("a", true, A), ("a", false, A)],
+    &[("a", false, A), ("a", false, B)],
+    &[("a", true, A), ("b", true, A), ("b", true, A)],
 ];
 
 // What is wrong, and where.
@@ -109,6 +161,60 @@ fn has_rows(shard: &Shard, rows: &[(&str, bool, &str)]) -> bool {
                 row.file == *file && row.conda == *conda && row.view.name() == *name
             })
         })
+}
+
+// The files of these names and records.
+fn files(alloc: Global, rows: &[(&str, bool, &[u8])]) -> Result<Vec<FileRecord>, Fail> {
+    let mut files = Vec::new(alloc);
+    for (file, conda, record) in rows {
+        let value = match PackageRecord::read(alloc, &mut Cursor::new(record)) {
+            Ok(value) => value,
+            Err(refusal) => return Err(refusal.into()),
+        };
+        files.push(FileRecord {
+            file: Text::copy(alloc, file)?,
+            conda: *conda,
+            value,
+        })?;
+    }
+    Ok(files)
+}
+
+#[test]
+fn writes_what_another_program_writes_and_reads_it_again(rt: HostRuntime) -> Result<(), Fail> {
+    let alloc = rt.alloc();
+    for (rows, expected) in WRITTEN {
+        let files = files(alloc, rows)?;
+        let mut out = b"\xc0".to_vec(alloc)?;
+        if !can_write_shard(files.as_slice()) {
+            return Err("files in order can't be written".into());
+        }
+        write_shard(files.as_slice(), &mut out)?;
+        assert_eq!(rt;
+            out.as_slice().split_first(),
+            Some((&0xc0, expected)),
+            "{expected:?}"
+        );
+        let shard = read(alloc, &[expected])?;
+        assert_eq!(rt; shard.len(), rows.len());
+        for (i, (file, conda, _)) in rows.iter().enumerate() {
+            assert!(rt;
+                shard
+                    .row(i)
+                    .is_some_and(|row| row.file == *file && row.conda == *conda)
+            );
+        }
+    }
+    Ok(())
+}
+
+#[test]
+fn files_out_of_order_can_not_be_written(rt: HostRuntime) -> Result<(), Fail> {
+    for rows in OUT_OF_ORDER {
+        let files = files(rt.alloc(), rows)?;
+        assert!(rt; !can_write_shard(files.as_slice()), "{rows:?}");
+    }
+    Ok(())
 }
 
 #[test]

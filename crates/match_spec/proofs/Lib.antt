@@ -1,0 +1,7 @@
+pub mod EntryLemmas
+pub mod NumberLemmas
+pub mod KeptLemmas
+pub mod StarLemmas
+pub mod AsciiLemmas
+pub mod MatchLemmas
+pub mod TextLemmas

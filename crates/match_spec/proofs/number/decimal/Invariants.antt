@@ -1,0 +1,14 @@
+use Rattle.std.proofs.Common.{◌≡◌, ◌<◌, ◌^◌, length, true}
+use Rattle.std.specs.Char.{is_ascii_digit}
+use Rattle.std.specs.List.{list_all}
+use Rattle.match_spec.specs.Number.{decimal_from}
+use Rattle.match_spec.proofs.number.decimal.Given as goal
+
+abbrev pub invariant-digits : goal.invariant-digits
+invariant-digits l = record {
+  same : decimal_from l.number l.rest ≡ decimal_from 0 l.digits;
+  fits : l.number < 2 ^ 64;
+}
+
+abbrev pub decreases-digits : goal.decreases-digits
+decreases-digits l = length l.rest

@@ -1,0 +1,20 @@
+pub mod Signs
+pub mod Passage
+pub mod StarBuild
+pub mod Number
+pub mod Parts
+pub mod Bracket
+pub mod Kept
+pub mod Reading
+pub mod Matching
+pub mod Seen
+pub use Rattle.gateway_words.specs.Ascii
+pub use Rattle.gateway_words.specs.Reading as Words
+pub use Rattle.conda_name.specs.Dependency
+pub use Rattle.conda_name.specs.Name
+pub use Rattle.conda_record.specs.Record
+pub use Rattle.conda_record.specs.View
+pub use Rattle.conda_version.specs.Allowing
+pub use Rattle.conda_version.specs.Constraint
+pub use Rattle.conda_version.specs.Leaf
+pub use Rattle.conda_version.specs.Text

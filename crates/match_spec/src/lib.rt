@@ -1,0 +1,27 @@
+//! Specs of conda packages: what a text asks for, and which records it matches, after conda's
+//! `MatchSpec` (docs/FORMATS.md, "Specs").
+//!
+//! Contracts see a `Spec` as its `Meaning`, a name and the parts that are there (`specs/Parts`).
+//! The layer above uses: what a text reads as (`specs/Reading`), and that a spec matches exactly
+//! the records of which the name and each of its parts fit (`specs/Matching`), without memory.
+#![tactic(auto)]
+
+mod bracket;
+mod build;
+mod entry;
+mod fault;
+mod kept;
+mod key;
+mod number;
+mod outside;
+mod parts;
+mod passage;
+mod spec;
+mod text;
+mod version;
+
+pub use fault::{SpecFault, SpecRefusal};
+pub use spec::Spec;
+
+#[cfg(test)]
+mod tests;

@@ -1,0 +1,12 @@
+pub mod RefusalLemmas
+pub mod NameLemmas
+pub mod SortLemmas
+pub mod NamesLoop
+pub mod DigestLemmas
+pub mod VersionLemmas
+pub mod InfoLemmas
+pub mod ListedLemmas
+pub mod IndexLemmas
+pub mod LookupLemmas
+pub mod WritingLoop
+pub mod WrittenLemmas

@@ -1,0 +1,14 @@
+pub mod Digests
+pub mod Version
+pub mod Info
+pub mod Index
+pub mod Names
+pub mod Reading
+pub mod Found
+pub mod Seen
+pub mod Writing
+pub use Rattle.mp_codec.specs.Value
+pub use Rattle.mp_codec.specs.Spelling
+pub use Rattle.mp_codec.specs.Fault
+pub use Rattle.mp_codec.specs.Keys
+pub use Rattle.digest_gate.specs.Digest

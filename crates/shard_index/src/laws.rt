@@ -1,0 +1,22 @@
+//! Laws of the indexes that are written and read, each the contract of a function with no body.
+
+ghost use Rattle.std.specs.Prelude.{◌≡◌, true, List, ℕ};
+ghost use Rattle.std.specs.List.{All};
+ghost use Rattle.std.specs.Str.{is_utf8};
+ghost use Rattle.shard_index.specs.Index.{Listed, Contents, IndexOf};
+ghost use Rattle.shard_index.specs.Writing.{index_bytes, IsWritable, IsEntry, contents_written};
+
+/// Bytes are an index in one way.
+pub fn bytes_are_one_index()
+    ensures { (bytes : List ℕ) (c d : Contents) → IndexOf bytes c → IndexOf bytes d → c ≡ d }
+{}
+
+/// What is written is read as the subdir and the names that it was written for, and equal ones
+/// have equal bytes.
+pub fn a_written_index_is_read()
+    ensures read { (subdir : List ℕ) (listed : List Listed) → IsWritable subdir listed
+        → is_utf8 subdir ≡ true → All IsEntry listed
+        → IndexOf (index_bytes subdir listed) (contents_written subdir listed) }
+    ensures equal { (s t : List ℕ) (xs ys : List Listed) → s ≡ t → xs ≡ ys
+        → index_bytes s xs ≡ index_bytes t ys }
+{}
