@@ -3,6 +3,7 @@ pub mod Digests
 pub mod Record
 pub mod View
 pub mod Reading
+pub mod Json
 pub mod Writing
 pub use Rattle.mp_codec.specs.Value
 pub use Rattle.mp_codec.specs.Spelling

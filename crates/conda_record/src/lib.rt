@@ -6,6 +6,7 @@
 //! (`specs/Writing`).
 #![tactic(auto)]
 
+mod json;
 mod laws;
 mod reading;
 mod record;
@@ -16,6 +17,7 @@ mod value;
 mod view;
 mod writing;
 
+pub use json::JsonRefusal;
 pub use laws::a_written_record_is_read;
 pub use record::PackageRecord;
 pub use refusal::RecordRefusal;
