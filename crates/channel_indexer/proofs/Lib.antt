@@ -1,0 +1,5 @@
+pub mod PutLemmas
+pub mod InputLemmas
+pub mod GroupLemmas
+pub mod ShardLemmas
+pub mod IndexLemmas

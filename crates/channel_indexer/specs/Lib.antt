@@ -1,0 +1,9 @@
+pub mod Puts
+pub mod Input
+pub mod Seen
+pub mod Groups
+pub mod Grouped
+pub mod Shards
+pub mod Prepared
+pub mod Indexing
+pub mod Store

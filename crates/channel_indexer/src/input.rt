@@ -1,0 +1,143 @@
+//! The records of `repodata.json`.
+
+ghost use Rattle.std.specs.Prelude.{◌≡◌, ◌++◌, OnOk, OnErr, vec_len};
+ghost use Rattle.serde_json.specs.View.{view, members_view};
+ghost use Rattle.serde_json.specs.Find.{get};
+ghost use Rattle.gateway_words.specs.Reading.{Gives};
+ghost use Rattle.channel_indexer.specs.Input.{fault_of, json_in, members_of, row_of, row_if_named, rows_of, rows_in, rows_from};
+ghost use Rattle.conda_name.specs.Name.{name_of};
+ghost use Rattle.channel_indexer.specs.Seen.{members_lent};
+
+use crate::fault::IndexFault;
+use conda_name::{Name, NameRefusal};
+use conda_record::{JsonRefusal, PackageRecord};
+use mp_codec::Text;
+use serde_json::error::Category;
+use serde_json::{Map, Value};
+use shard_file::FileRecord;
+use std::alloc::Global;
+
+/// The records that the bytes of `repodata.json` say, those of `packages` first, each part in the
+/// order of its file names. The bytes are given back before the records are made.
+#[tactic(auto, unfolding(crate::specs::Input::rows_from))]
+pub(crate) fn records(alloc: Global, bytes: Vec<u8>) -> Result<Vec<FileRecord>, IndexFault>
+    ensures { Gives (λ rows. rows.items) fault_of result (rows_from bytes.items) }
+{
+    let value = parsed(alloc, &bytes)?;
+    drop(bytes);
+    records_in(alloc, &value)
+}
+
+// The value that the bytes are.
+fn parsed(alloc: Global, bytes: &[u8]) -> Result<Value, IndexFault>
+    ensures { Gives view fault_of result (json_in bytes.now) }
+{
+    let error = match Value::from_slice(alloc, bytes) {
+        Ok(value) => return Ok(value),
+        Err(error) => error,
+    };
+    match error.classify() {
+        Category::Memory => Err(IndexFault::Memory),
+        _ => Err(IndexFault::Json),
+    }
+}
+
+// The records of both parts of the value.
+fn records_in(alloc: Global, value: &Value) -> Result<Vec<FileRecord>, IndexFault>
+    ensures { Gives (λ rows. rows.items) fault_of result (rows_in (view value.now)) }
+{
+    if !value.is_object() {
+        return Err(IndexFault::Json);
+    }
+    let packages = part(value, "packages")?;
+    let conda = part(value, "packages.conda")?;
+    let mut records = records_of(alloc, packages, false)?;
+    let mut more = records_of(alloc, conda, true)?;
+    records.append(&mut more)?;
+    Ok(records)
+}
+
+// The files behind a key, if the key is there.
+fn part<'a>(
+    value: &'a Value,
+    key: &str,
+) -> Result<Option<&'a Map<String, Value>>, IndexFault>
+    ensures { Gives members_lent fault_of result (members_of (get key.now (view value.now))) }
+{
+    let Some(part) = value.get(key) else {
+        return Ok(None);
+    };
+    match part.as_object() {
+        Some(files) => Ok(Some(files)),
+        None => Err(IndexFault::Json),
+    }
+}
+
+// The records of the files of a part, none where it is missing.
+fn records_of(
+    alloc: Global,
+    files: Option<&Map<String, Value>>,
+    conda: bool,
+) -> Result<Vec<FileRecord>, IndexFault>
+    ensures { Gives (λ rows. rows.items) fault_of result (rows_of conda (members_lent files.entry)) }
+{
+    match files {
+        Some(files) => records_of_files(alloc, files, conda),
+        None => Ok(Vec::new(alloc)),
+    }
+}
+
+// The records of some files, in the order of their names.
+fn records_of_files(
+    alloc: Global,
+    files: &Map<String, Value>,
+    conda: bool,
+) -> Result<Vec<FileRecord>, IndexFault>
+    ensures { Gives (λ rows. rows.items) fault_of result
+        (rows_of conda (members_view files.now.entries)) }
+{
+    let mut records = Vec::with_capacity(alloc, files.len())?;
+    for (file, value) in files {
+        records.push(record(alloc, file.as_str(), conda, value)?)?;
+    }
+    Ok(records)
+}
+
+// The record of one file.
+fn record(
+    alloc: Global,
+    file: &str,
+    conda: bool,
+    value: &Value,
+) -> Result<FileRecord, IndexFault>
+    ensures { Gives (λ row. row) fault_of result (row_of conda file.now (view value.now)) }
+{
+    match PackageRecord::from_json(alloc, value) {
+        Ok(value) => named(alloc, file, conda, value),
+        Err(JsonRefusal::Fields) => Err(IndexFault::Fields(Text::copy(alloc, file)?)),
+        Err(JsonRefusal::Memory) => Err(IndexFault::Memory),
+    }
+}
+
+// The record of one file, whose name has to be that of a package.
+fn named(
+    alloc: Global,
+    file: &str,
+    conda: bool,
+    value: PackageRecord,
+) -> Result<FileRecord, IndexFault>
+    ensures { Gives (λ row. row) fault_of result
+        (row_if_named conda file.now value (name_of value.name)) }
+{
+    match Name::read(alloc, value.view().name()) {
+        Ok(_) => Ok(FileRecord {
+            file: Text::copy(alloc, file)?,
+            conda,
+            value,
+        }),
+        Err(NameRefusal::Memory) => Err(IndexFault::Memory),
+        Err(NameRefusal::Empty | NameRefusal::Char(_)) => {
+            Err(IndexFault::Fields(Text::copy(alloc, file)?))
+        }
+    }
+}

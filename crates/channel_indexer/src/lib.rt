@@ -1,0 +1,19 @@
+//! Indexing a subdir: `repodata.json` of a store is cut into the shards of its package names, and an
+//! index of them (CEP 16).
+//!
+//! Contracts see what was put as a list: the shard of each name, ascending by the names, and behind
+//! them the index (`specs/Shards.antt`: `index_puts`). The layer above uses `specs/Indexing.antt`:
+//! what an indexing did, why it could not, and that a stop leaves some of the puts, from the first
+//! one on.
+#![tactic(auto)]
+
+mod fault;
+mod groups;
+mod index;
+mod input;
+mod plan;
+mod putting;
+mod shards;
+
+pub use fault::{IndexFault, Large};
+pub use index::{Summary, index_subdir};
