@@ -3,3 +3,4 @@ pub mod InputLemmas
 pub mod GroupLemmas
 pub mod ShardLemmas
 pub mod IndexLemmas
+pub mod LawLemmas

@@ -1,11 +1,9 @@
 -- What the making of shards and of an index gives.
 use Rattle.std.specs.Prelude.{◌≡◌, ℕ, List, [], ◌∷◌, ◌++◌, map, Result, MatchResult, IfSome}
 use Rattle.std.specs.List.{All}
-use Rattle.shard_file.specs.Rows.{Row}
 use Rattle.shard_index.specs.Index.{Listed}
 use Rattle.channel_indexer.specs.declared.fault.IndexFault.{IndexFault}
 use Rattle.channel_indexer.specs.declared.fault.IndexFault.TheVariants as fault
-use Rattle.channel_indexer.specs.declared.fault.Large.{Large}
 use Rattle.channel_indexer.specs.declared.fault.Large.TheVariants as large
 use Rattle.channel_indexer.specs.declared.shards.Made.{Made}
 use Rattle.channel_indexer.specs.declared.shards.Prepared.{Prepared}

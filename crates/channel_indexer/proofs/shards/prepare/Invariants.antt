@@ -1,7 +1,5 @@
-use Rattle.std.proofs.Common.{◌≡◌, ◌++◌, List, map, length}
+use Rattle.std.proofs.Common.{◌≡◌, ◌++◌, map}
 use Rattle.std.specs.List.{All}
-use Rattle.std.specs.BTreeMap.{BTreeMap}
-use Rattle.channel_indexer.specs.Groups.{Group}
 use Rattle.channel_indexer.specs.Grouped.{group_of}
 use Rattle.channel_indexer.specs.Shards.{shard_put, listed_of, IsFit}
 use Rattle.channel_indexer.proofs.shards.prepare.Given as goal
