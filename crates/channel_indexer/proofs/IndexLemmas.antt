@@ -103,6 +103,7 @@ place-stops (Some told) middle new place bytes made stands plan same stop =
       says = plan.says;
       fit = plan.plan.prepared.fit;
       index_fit = plan.plan.prepared.index_fit;
+      readings = plan.plan.prepared.readings;
     } in
     within plan.stood plan.groups indexable (record {
       done = stop.done;

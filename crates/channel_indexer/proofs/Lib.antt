@@ -4,3 +4,4 @@ pub mod GroupLemmas
 pub mod ShardLemmas
 pub mod IndexLemmas
 pub mod LawLemmas
+pub mod StandingLemmas

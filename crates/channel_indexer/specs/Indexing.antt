@@ -14,7 +14,7 @@ use Rattle.channel_indexer.specs.Store.{stored_fault}
 use Rattle.channel_indexer.specs.Groups.{Group, InOrder, AreGroupsOf}
 use Rattle.channel_indexer.specs.Puts.{with_puts, StopsWithin, stands_in, AreApart}
 use Rattle.channel_indexer.specs.Shards.{input_name, shard_put, listed_of, index_puts, IsFit, HasFitIndex}
-use Rattle.channel_indexer.specs.Prepared.{ArePrepared, AreTooLong}
+use Rattle.channel_indexer.specs.Prepared.{HaveReadings, ArePrepared, AreTooLong}
 
 -- the most bytes of `repodata.json`
 abbrev pub most_input : ℕ
@@ -48,6 +48,7 @@ pub record IsIndexable (place : List ℕ) (told : Files) (stood : List Row) (gro
   pub says : SaysGroups bytes stood groups
   pub fit : All IsFit groups
   pub index_fit : HasFitIndex place (map listed_of groups)
+  pub readings : HaveReadings place groups
 
 -- the shards of some groups that stand already, of so many
 abbrev pub count_standing : List ℕ → Files → List Group → ℕ

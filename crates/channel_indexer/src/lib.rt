@@ -18,7 +18,7 @@ mod shards;
 
 pub use fault::{IndexFault, Large};
 pub use index::{Summary, index_subdir};
-pub use laws::groups_have_the_rows;
+pub use laws::{a_stop_keeps_the_place, groups_have_the_rows};
 
 #[cfg(test)]
 mod tests;

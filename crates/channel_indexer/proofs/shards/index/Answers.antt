@@ -1,6 +1,7 @@
-use Rattle.std.proofs.Common.{◌≡◌, ◌++◌, ◌≤◌, List, ℕ, length, ap, ◌∙◌, arith}
+use Rattle.std.proofs.Common.{◌≡◌, ◌++◌, ◌≤◌, List, ℕ, length, subst, ap, ◌∙◌, arith}
 use Rattle.channel_store.specs.Names.{subdir_of}
-use Rattle.shard_index.specs.Writing.{index_bytes}
+use Rattle.shard_index.specs.Index.{IndexOf}
+use Rattle.shard_index.specs.Writing.{index_bytes, contents_written}
 use Rattle.channel_indexer.proofs.shards.index.Goals as goal
 
 pub returns : goal.returns
@@ -13,5 +14,6 @@ returns c =
     let short : length (index_bytes (subdir_of c.args.place.now) rows) ≤ 33554432 = omega (arith, ap (length {A = ℕ}) same, c.if-len-gt-MOST_BYTES.false, c.len.ensures, c.write_index.new.out.ok) in
     record {
       fit = record { few = omega (arith, c.if-rows-ge-MOST_SAID.false); short = short };
+      reading = subst (λ (s : List ℕ). IndexOf (index_bytes s rows) (contents_written s rows)) c.subdir_of.ensures c.in_ok-write_index.ensures.read_again;
       put = λ i. record { name = c.in_ok-name_at.ensures i; bytes = same i };
     }

@@ -14,7 +14,8 @@ use Rattle.channel_indexer.specs.Prepared.{IsMade}
 use Rattle.std.specs.declared.alloc.Global.{Global}
 use Rattle.std.specs.declared.string.String.{String}
 use Rattle.std.specs.declared.vec.Vec.{Vec}
-use Rattle.shard_file.specs.Rows.{Row}
+use Rattle.shard_file.specs.Rows.{Row, ShardOf}
+use Rattle.shard_file.specs.Writing.{shard_bytes}
 use Rattle.channel_indexer.proofs.GroupLemmas.{Entries, all-on}
 use Rattle.channel_indexer.proofs.shards.prepare.Goals as goal
 
@@ -36,6 +37,7 @@ loop-name-preserved c =
     let listed : c.push-in-loop-name.new.self.items ≡ c.loop-name.rows.items ++ c.in_ok-put.field-0.row ∷ [] = search rules in
     record {
       fit = push-all IsFit group_of c.loop-name.yielded entry c.loop-name.invariant.fit made.fit;
+      readings = push-all (λ (g : Group). ShardOf (shard_bytes g.rows) g.rows) group_of c.loop-name.yielded entry c.loop-name.invariant.readings made.reading;
       shards = pushed ∙ (λ i. c.loop-name.invariant.shards i ++ made.put i ∷ []) ∙ sym (map-push (shard_put place) group_of c.loop-name.yielded entry);
       rows = listed ∙ (λ i. c.loop-name.invariant.rows i ++ made.row i ∷ []) ∙ sym (map-push listed_of group_of c.loop-name.yielded entry);
       all = c.loop-name.invariant.all ∙ all-on c.loop-name.yielded c.loop-name.name-iterator c.next.new.self entry next;
