@@ -1,25 +1,26 @@
 -- A record that is written is read again as its fields.
-use Rattle.std.proofs.Common.{◌≡◌, refl, sym, ◌∙◌, ap, subst, ℕ, zero, suc, ◌+◌, ◌<◌, ◌≤◌, ◌^◌, Bool, true, false, cond, eqb, List, [], ◌∷◌, ◌++◌, length, arith, append_assoc, append-nil}
-use Rattle.std.specs.Prelude.{Result, Ok, Err, Option, Some, None, IfSome, codes, drop}
+use Rattle.std.proofs.Common.{◌≡◌, refl, sym, ◌∙◌, ap, subst, ℕ, suc, ◌<◌, ◌≤◌, ◌^◌, Bool, true, cond, List, [], ◌∷◌, ◌++◌, length, arith, append_assoc, append-nil, get_or}
+use Rattle.std.specs.Prelude.{Ok, Option, Some, None, IfSome, codes, drop}
 use Rattle.std.specs.Option.{option_map}
-use Rattle.std.specs.List.{flat_map, All, list_all}
-use Rattle.std.specs.Str.{is_utf8}
+use Rattle.std.specs.List.{flat_map, All, AllByRecursion}
 use Rattle.std.specs.Bool.{◌==◌}
 use Rattle.gateway_words.specs.Places.{Position, Between, start_of}
 use Rattle.gateway_words.specs.Reading.{◌>>=◌}
-use Rattle.mp_codec.specs.declared.fault.FormatFault.{FormatFault}
 use Rattle.mp_codec.specs.declared.head.Head.TheVariants as head
 use Rattle.mp_codec.specs.Value.{array_len}
 use Rattle.mp_codec.specs.Reading.{head_from, bytes_from}
 use Rattle.mp_codec.specs.Maps.{Read, str_from, text_from, number_from, known_map_from}
-use Rattle.mp_codec.specs.Writing.{uint_bytes, str_bytes, bin_head, bin_bytes, array_head, map_head, pair_bytes, pairs_bytes, known_map_bytes, value_count}
+use Rattle.mp_codec.specs.Writing.{uint_bytes, str_bytes, bin_head, bin_bytes, array_head, map_head, pair_bytes, value_count}
 use Rattle.mp_codec.proofs.BindLemmas.{bind_ok}
 use Rattle.mp_codec.proofs.HeadLemmas.{ok_first}
-use Rattle.mp_codec.proofs.MappedLemmas.{turned}
 use Rattle.mp_codec.proofs.WrittenLemmas.{Halves, halves, nothing_between, ReadAs, read_turned, head_read, array_head_stands, bin_head_stands, bytes_read, str_read_back, text_read_back, number_read_back, Written, known_map_written}
+use Rattle.mp_codec.specs.Value.{Value}
+use Rattle.mp_codec.specs.Spelling.{Spells}
+use Rattle.mp_codec.specs.Writing.{IsShortest}
+use Rattle.mp_codec.proofs.ShortestLemmas.{IsTight, tight_uint, tight_str, tight_bin, tight_array, tight_each, tight_known_map, pointwise, names_short, shortest}
 use Rattle.conda_record.specs.Texts.{text_in, texts_at, tried, texts_or_skipped, texts_from}
 use Rattle.conda_record.specs.Digests.{digest_in, digest_by, digest_from}
-use Rattle.conda_record.specs.Record.{Fields, record_keys, RecordAt}
+use Rattle.conda_record.specs.Record.{Fields, record_keys}
 use Rattle.conda_record.specs.Reading.{Datum, Text, Number, OptionalText, Texts, Digest, required, optional_text_from, datum_from, number_in, optional_text_in, texts_in, digest_in as digest_data, fields_from, record_from}
 use Rattle.conda_record.specs.Writing.{texts_bytes, texts_if_any, values_of, record_bytes, IsShort, AreShort, IsWritable, AreText, AreFields, IsReadAgain, text_pair, number_pair, texts_pair, first_pairs, middle_pairs, last_pairs, key_count}
 use Rattle.conda_record.proofs.RecordLemmas.{differ, record_is, record_found}
@@ -227,3 +228,67 @@ same_fields f g w a v b e =
     let between : Between (record_bytes f) here there = record { left = sym (append-nil (record_bytes f)); at = omega arith } in
     let both : ◌≡◌ {A = Read Fields} (Ok (f, there)) (Ok (g, there)) = sym (record_back f w a here there between) ∙ record_back g v b here there (subst (λ (bytes : List ℕ). Between bytes here there) e between) in
     ok_first both
+
+-- ---- no spelling of the value that a record is has fewer bytes
+
+where_mapped : {X : Type 0} (bytes : X → List ℕ) (o : Option X) → IfSome o (λ x. IsTight (bytes x)) → IfSome (option_map bytes o) IsTight
+where_mapped bytes (Some x) t = t
+where_mapped bytes None t = t
+
+tight_texts : (texts : List (List ℕ)) → AreShort texts → IsTight (texts_bytes texts)
+tight_texts texts short = tight_array (length texts) (flat_map str_bytes texts) short.many (tight_each str_bytes texts (λ k d lt. tight_str (get_or texts k d) (short.each k d lt)))
+
+tight_any : (texts : List (List ℕ)) → AreShort texts → IfSome (texts_if_any texts) IsTight
+tight_any [] short = tt
+tight_any (t ∷ ts) short = tight_texts (t ∷ ts) short
+
+tight_values : (f : Fields) → IsWritable f → AreFields f → AllByRecursion (λ (v : Option (List ℕ)). IfSome v IsTight) (values_of f)
+tight_values f w a = (
+  tight_str f.name w.name_short,
+  (
+    tight_str f.version w.version_short,
+    (
+      tight_str f.build w.build_short,
+      (
+        tight_uint f.build_number a.build_number_fits,
+        (
+          tight_texts f.depends w.depends_short,
+          (
+            tight_any f.constrains w.constrains_short,
+            (
+              where_mapped str_bytes f.subdir (if_some IsShort IsShort (λ t. IsTight (str_bytes t)) f.subdir (λ t short same. tight_str t short) w.subdir_short w.subdir_short),
+              (
+                where_mapped bin_bytes f.md5 (if_some (λ d. length d ≡ 16) (λ d. length d ≡ 16) (λ d. IsTight (bin_bytes d)) f.md5 (λ d len same. tight_bin d (omega arith)) a.md5_length a.md5_length),
+                (
+                  where_mapped bin_bytes f.sha256 (if_some (λ d. length d ≡ 32) (λ d. length d ≡ 32) (λ d. IsTight (bin_bytes d)) f.sha256 (λ d len same. tight_bin d (omega arith)) a.sha256_length a.sha256_length),
+                  (
+                    where_mapped uint_bytes f.size (if_some (λ n. n < 2 ^ 64) (λ n. n < 2 ^ 64) (λ n. IsTight (uint_bytes n)) f.size (λ n lt same. tight_uint n lt) a.size_fits a.size_fits),
+                    (
+                      where_mapped uint_bytes f.timestamp (if_some (λ n. n < 2 ^ 64) (λ n. n < 2 ^ 64) (λ n. IsTight (uint_bytes n)) f.timestamp (λ n lt same. tight_uint n lt) a.timestamp_fits a.timestamp_fits),
+                      (
+                        where_mapped str_bytes f.license (if_some IsShort IsShort (λ t. IsTight (str_bytes t)) f.license (λ t short same. tight_str t short) w.license_short w.license_short),
+                        (
+                          where_mapped str_bytes f.noarch (if_some IsShort IsShort (λ t. IsTight (str_bytes t)) f.noarch (λ t short same. tight_str t short) w.noarch_short w.noarch_short),
+                          tt,
+                        ),
+                      ),
+                    ),
+                  ),
+                ),
+              ),
+            ),
+          ),
+        ),
+      ),
+    ),
+  ),
+)
+
+-- each head in a record that is written is the shortest
+pub tight_record : (f : Fields) → IsWritable f → AreFields f → IsTight (record_bytes f)
+unfolding record_bytes
+tight_record f w a =
+    tight_known_map record_keys (values_of f) refl (few_values f) (names_short record_keys refl) (pointwise (λ (v : Option (List ℕ)). IfSome v IsTight) (values_of f) (tight_values f w a))
+
+pub shortest_record : (f : Fields) → IsWritable f → AreFields f → (v : Value) → Spells v (record_bytes f) → IsShortest v (record_bytes f)
+shortest_record f w a = shortest (record_bytes f) (tight_record f w a)

@@ -1,9 +1,6 @@
 -- Texts of the elements of a list, one element more.
 use Rattle.std.proofs.Common.{◌≡◌, ℕ, ◌+◌, ◌<◌, None, Some, Bool, true, false, cond, List, [], ◌∷◌, ◌++◌, length, take, slice_get, IsTrue, ◌↔◌, refl, sym, ◌∙◌, ap, append-nil, inl, inr, arith, true≢false}
 use Rattle.std.specs.List.{filter, flat_map}
-use Rattle.std.specs.Str.{bytes_eq}
-use Rattle.std.specs.Cmp.Lexicographic.{bytes_decides}
-use Rattle.std.proofs.lemmas.Bool.{false_from_ne_true}
 use Rattle.std.proofs.lemmas.List.{take_more}
 use Rattle.std.proofs.lemmas.List.Concat.{flat_map-append}
 use Rattle.std.proofs.lemmas.List.Elements.{filter-append}
@@ -39,8 +36,3 @@ module _ {X Y : Type 0} (f : X → List Y) (xs : List X) (i : ℕ) (x : X) (at :
     -- one element more that doesn't pass adds nothing
     pub failing : p x ≡ false → flat_map f (filter p (take (i + 1) xs)) ≡ flat_map f (filter p (take i xs))
     failing is = chosen false is ∙ append-nil (flat_map f (filter p (take i xs)))
-
--- an answer that says whether bytes are equal is the test of them
-pub same-bytes : (xs ys : List ℕ) (r : Bool) → (IsTrue r ↔ (xs ≡ ys)) → bytes_eq xs ys ≡ r
-same-bytes xs ys true says = (bytes_decides xs ys).1 (says.0 refl)
-same-bytes xs ys false says = false_from_ne_true (bytes_eq xs ys) (λ e. true≢false (sym (says.1 ((bytes_decides xs ys).0 e))))

@@ -3,7 +3,9 @@ pub mod Status
 pub mod Texts
 pub mod Show
 pub use Rattle.gateway_words.specs.Causes
-pub use Rattle.conda_name.specs.Name
+pub use Rattle.match_spec.specs.Parts
+pub use Rattle.match_spec.specs.Matching
+pub use Rattle.match_spec.specs.Reading as Specs
 pub use Rattle.link_io.specs.Transfer
 pub use Rattle.mp_codec.specs.Fault
 pub use Rattle.shard_file.specs.Rows

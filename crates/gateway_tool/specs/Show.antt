@@ -2,6 +2,7 @@
 use Rattle.std.specs.Prelude.{◌≡◌, ℕ, ◌<◌, ◌≤◌, List, ◌∷◌, length, Option, IfSome}
 use Rattle.mp_codec.specs.declared.fault.FormatFault.{FormatFault}
 use Rattle.mp_codec.specs.Fault.{IsFirstFault}
+use Rattle.match_spec.specs.Parts.{Meaning}
 use Rattle.shard_file.specs.Rows.{Row, ShardOf, ShardFault}
 use Rattle.gateway_tool.specs.declared.note.Note.{Note}
 use Rattle.gateway_tool.specs.declared.note.Note.TheVariants.{Shard}
@@ -14,13 +15,13 @@ use Rattle.gateway_tool.specs.Texts.{show_text}
 abbrev pub IsWhole : Option (List ℕ) → List ℕ → Type 0
 IsWhole left bytes = IfSome left (λ all. bytes ≡ all)
 
--- the whole input is a shard, and what was written is right for the text of its rows of this name
-pub record Shows (left : Option (List ℕ)) (IsWritten : List ℕ → Type 0) (name : List ℕ) : Type 0 where
+-- the whole input is a shard, and what was written is right for the text of its rows that the spec matches
+pub record Shows (left : Option (List ℕ)) (IsWritten : List ℕ → Type 0) (spec : Meaning) : Type 0 where
   pub bytes : List ℕ
   pub rows : List Row
   pub whole : IsWhole left bytes
   pub shard : ShardOf bytes rows
-  pub written : IsWritten (show_text name rows)
+  pub written : IsWritten (show_text spec rows)
 
 -- the whole input is no shard, and the note has the first fault that stands in it
 pub record IsRefused (left : Option (List ℕ)) (note : Note) : Type 0 where

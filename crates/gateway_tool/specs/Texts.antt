@@ -1,10 +1,10 @@
 -- The printed text of records.
-use Rattle.std.specs.Prelude.{ℕ, Bool, List, [], ◌∷◌, ◌++◌, map, filter, decimal, if◌then◌else◌}
+use Rattle.std.specs.Prelude.{ℕ, Bool, List, [], ◌∷◌, ◌++◌, map, filter, decimal, codes, if◌then◌else◌}
 use Rattle.std.specs.Char.{is_ascii_control}
 use Rattle.std.specs.List.{flat_map, join_with_byte}
-use Rattle.std.specs.Str.{bytes_eq}
 use Rattle.gateway_words.specs.Ascii.{newline, space, question_mark}
-use Rattle.conda_name.specs.Name.{lower_case}
+use Rattle.match_spec.specs.Parts.{Meaning}
+use Rattle.match_spec.specs.Matching.{matches}
 use Rattle.shard_file.specs.Rows.{Row}
 
 -- a byte as it is shown; in a text the bytes of control characters are those below 0x20, and 0x7f
@@ -28,10 +28,10 @@ depend_line text = space ∷ space ∷ shown text ++ newline ∷ []
 abbrev pub row_text : Row → List ℕ
 row_text row = record_line row ++ flat_map depend_line row.fields.depends
 
--- a row is a record of the package of this name, which is in lower case
-abbrev pub is_of : List ℕ → Row → Bool
-is_of name row = bytes_eq (lower_case row.fields.name) name
+-- the spec matches the row, in the channel and the subdir that `-` stands for
+abbrev pub is_asked : Meaning → Row → Bool
+is_asked spec row = matches spec row.fields (codes "-") (codes "-") row.file
 
--- the lines of the rows of this name, in their order
-abbrev pub show_text : List ℕ → List Row → List ℕ
-show_text name rows = flat_map row_text (filter (is_of name) rows)
+-- the lines of the rows that the spec matches, in their order
+abbrev pub show_text : Meaning → List Row → List ℕ
+show_text spec rows = flat_map row_text (filter (is_asked spec) rows)

@@ -1,16 +1,17 @@
-//! The command `show`: the records of one name from one shard.
+//! The command `show`: the records of one shard that a spec matches.
 ghost use Rattle.std.specs.Prelude.{◌≡◌, ◌≢◌, ◌+◌, ◌∷◌, [], None, IfSome, IsSomeAnd};
 ghost use Rattle.std.specs.Io.KnownBytes.{append_known};
 ghost use Rattle.link_io.specs.Transfer.{LosesAtMost, AppendsPart};
-ghost use Rattle.gateway_tool.specs.Words.{shown_name};
+ghost use Rattle.gateway_tool.specs.Words.{shown_spec};
 ghost use Rattle.gateway_tool.specs.Status.{IsOneOf, RefusesWords, HasStatusCause};
 ghost use Rattle.gateway_tool.specs.Show.{Shows, IsRefused, IsTooLong, LeadsTo};
 
 use crate::Note;
 use crate::status::{BAD_FILE, OK, OUT_OF_MEMORY, READ_FAULT, TOO_MUCH_INPUT, USAGE, WRITE_FAULT};
 use crate::texts::show_text;
-use crate::words::{WordsRefusal, shown_name};
+use crate::words::{WordsRefusal, shown_spec};
 use link_io::{ReadRefusal, Sink, Source, read_to_end, write_all};
+use match_spec::Spec;
 use mp_codec::Text;
 use shard_file::{Shard, ShardRefusal};
 use std::alloc::Global;
@@ -18,8 +19,8 @@ use std::alloc::Global;
 /// The most bytes of a shard that is read.
 pub const MOST_SHARD_BYTES: usize = 33_554_432;
 
-/// Prints the records of one package from the shard that the input is, by the words `show` and a
-/// package name. The answer is the status, and the fault of an input that is no shard.
+/// Prints the records that a spec matches from the shard that the input is, by the words `show` and
+/// a spec, whose channel and subdir are `-`. The answer is the status, and the fault of an input that is no shard.
 ///
 /// `USAGE` where the words are others: nothing was read. `READ_FAULT` or `TOO_MUCH_INPUT`,
 /// whichever is met first in reading. `BAD_FILE` where the input is no shard. `WRITE_FAULT` where
@@ -33,14 +34,14 @@ pub fn run_show<I: Source, O: Sink>(
     out: &mut O,
 ) -> (u8, Note)
     // The words. Where they are wrong, and memory lasts, the status is 2.
-    ensures usage { result.0 ≡ USAGE → shown_name words.now ≡ None }
-    ensures wrong_words { shown_name words.now ≡ None
+    ensures usage { result.0 ≡ USAGE → shown_spec words.now ≡ None }
+    ensures wrong_words { shown_spec words.now ≡ None
         → RefusesWords result.0 input.old input.new out.old out.new }
 
     // What was written: the text of the matching rows, with status 4 a part of it, else nothing.
-    ensures answered { result.0 ≡ OK → IsSomeAnd (shown_name words.now) (Shows
+    ensures answered { result.0 ≡ OK → IsSomeAnd (shown_spec words.now) (Shows
         (I.left input.old) (λ text. O.written out.new ≡ append_known (O.written out.old) text)) }
-    ensures part { result.0 ≡ WRITE_FAULT → IsSomeAnd (shown_name words.now) (Shows
+    ensures part { result.0 ≡ WRITE_FAULT → IsSomeAnd (shown_spec words.now) (Shows
         (I.left input.old) (AppendsPart (O.written out.old) (O.written out.new))) }
     ensures silent { result.0 ≢ OK → result.0 ≢ WRITE_FAULT
         → O.written out.new ≡ O.written out.old }
@@ -59,11 +60,35 @@ pub fn run_show<I: Source, O: Sink>(
     ensures statuses { IsOneOf (OK ∷ USAGE ∷ READ_FAULT ∷ WRITE_FAULT ∷ OUT_OF_MEMORY
         ∷ TOO_MUCH_INPUT ∷ BAD_FILE ∷ []) result.0 }
 {
-    let name = match shown_name(alloc, words) {
-        Ok(name) => name,
-        Err(WordsRefusal::Usage) => return (USAGE, Note::Nothing),
-        Err(WordsRefusal::Memory) => return (OUT_OF_MEMORY, Note::Nothing),
-    };
+    match shown_spec(alloc, words) {
+        Ok(spec) => show(alloc, &spec, input, out),
+        Err(WordsRefusal::Usage) => (USAGE, Note::Nothing),
+        Err(WordsRefusal::Memory) => (OUT_OF_MEMORY, Note::Nothing),
+    }
+}
+
+// Prints the records that a spec matches from the shard that the input is.
+fn show<I: Source, O: Sink>(alloc: Global, spec: &Spec, input: &mut I, out: &mut O) -> (u8, Note)
+    ensures answered { result.0 ≡ OK → Shows (I.left input.old)
+        (λ text. O.written out.new ≡ append_known (O.written out.old) text) spec.now }
+    ensures part { result.0 ≡ WRITE_FAULT → Shows (I.left input.old)
+        (AppendsPart (O.written out.old) (O.written out.new)) spec.now }
+    ensures silent { result.0 ≢ OK → result.0 ≢ WRITE_FAULT
+        → O.written out.new ≡ O.written out.old }
+
+    ensures bad_file { result.0 ≡ BAD_FILE → IsRefused (I.left input.old) result.1 }
+    ensures noted { result.0 ≢ BAD_FILE → result.1 ≡ Note.Nothing }
+    ensures too_much { result.0 ≡ TOO_MUCH_INPUT → IfSome (I.left input.old) IsTooLong }
+    ensures leads { IfSome (I.left input.old) (λ bytes. LeadsTo bytes result.0) }
+
+    ensures read_fault { HasStatusCause READ_FAULT
+        (I.faults input.old) (I.faults input.new) result.0 }
+    ensures write_fault { HasStatusCause WRITE_FAULT
+        (O.faults out.old) (O.faults out.new) result.0 }
+    ensures stops { LosesAtMost (MOST_SHARD_BYTES + 1) (I.left input.old) (I.left input.new) }
+    ensures statuses { IsOneOf (OK ∷ READ_FAULT ∷ WRITE_FAULT ∷ OUT_OF_MEMORY
+        ∷ TOO_MUCH_INPUT ∷ BAD_FILE ∷ []) result.0 }
+{
     let bytes = match read_to_end(alloc, input, MOST_SHARD_BYTES) {
         Ok(bytes) => bytes,
         Err(ReadRefusal::Failed) => return (READ_FAULT, Note::Nothing),
@@ -75,7 +100,7 @@ pub fn run_show<I: Source, O: Sink>(
         Err(ShardRefusal::Fault(fault, _)) => return (BAD_FILE, Note::Shard(fault)),
         Err(ShardRefusal::Memory(_)) => return (OUT_OF_MEMORY, Note::Nothing),
     };
-    let Ok(text) = show_text(alloc, &name, &shard) else {
+    let Ok(text) = show_text(alloc, spec, &shard) else {
         return (OUT_OF_MEMORY, Note::Nothing);
     };
     match write_all(out, text.as_slice()) {

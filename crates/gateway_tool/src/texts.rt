@@ -2,21 +2,21 @@
 ghost use Rattle.std.specs.Prelude.{◌≡◌, [], ◌∷◌, ◌++◌, IfOk, OnOk};
 ghost use Rattle.gateway_words.specs.Ascii.{space};
 ghost use Rattle.shard_file.specs.Seen.{row_seen};
-ghost use Rattle.gateway_tool.specs.Texts.{shown_byte, shown, depend_line, record_line, row_text, is_of, show_text};
+ghost use Rattle.gateway_tool.specs.Texts.{shown_byte, shown, depend_line, record_line, row_text, is_asked, show_text};
 
-use conda_name::{Name, same_name};
 use itoa::Buffer;
+use match_spec::Spec;
 use shard_file::{Shard, ShardRow};
 use std::alloc::{AllocError, Global};
 
-// The text of a shard's rows of this name.
-pub(crate) fn show_text(alloc: Global, name: &Name, shard: &Shard) -> Result<Vec<u8>, AllocError>
-    ensures { IfOk result (λ text. text.items ≡ show_text name.now shard.now.rows) }
+// The text of a shard's rows that a spec matches.
+pub(crate) fn show_text(alloc: Global, spec: &Spec, shard: &Shard) -> Result<Vec<u8>, AllocError>
+    ensures { IfOk result (λ text. text.items ≡ show_text spec.now shard.now.rows) }
 {
     let mut out = Vec::new(alloc);
     for i in 0..shard.len() {
         if let Some(row) = shard.row(i) {
-            if is_of(row, name) {
+            if is_asked(row, spec) {
                 put_row(&mut out, row)?;
             }
         }
@@ -24,11 +24,11 @@ pub(crate) fn show_text(alloc: Global, name: &Name, shard: &Shard) -> Result<Vec
     Ok(out)
 }
 
-// Whether a row is a record of the package of this name.
-fn is_of(row: ShardRow<'_>, name: &Name) -> bool
-    ensures { result ≡ is_of name.now (row_seen row.entry) }
+// Whether a spec matches a row, in the channel and the subdir that `-` stands for.
+fn is_asked(row: ShardRow<'_>, spec: &Spec) -> bool
+    ensures { result ≡ is_asked spec.now (row_seen row.entry) }
 {
-    same_name(row.view.name(), name)
+    spec.matches(row.view, "-", "-", row.file)
 }
 
 // Appends the lines of a row.

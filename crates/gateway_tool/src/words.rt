@@ -1,8 +1,8 @@
 //! The words of a command line.
 ghost use Rattle.std.specs.Prelude.{◌≡◌, IfOk, IsErrOf};
-ghost use Rattle.gateway_tool.specs.Words.{is_option, name_word, shown_name};
+ghost use Rattle.gateway_tool.specs.Words.{is_option, spec_word, shown_spec};
 
-use conda_name::{Name, NameRefusal};
+use match_spec::{Spec, SpecRefusal};
 use mp_codec::Text;
 use std::alloc::Global;
 
@@ -15,29 +15,29 @@ pub(crate) enum WordsRefusal {
     Memory,
 }
 
-// The package name whose records the words ask for.
-pub(crate) fn shown_name(alloc: Global, words: &[Text]) -> Result<Name, WordsRefusal>
-    ensures found { IfOk result (λ name. shown_name words.now ≡ Some name) }
-    ensures usage { IsErrOf result WordsRefusal.Usage → shown_name words.now ≡ None }
+// The spec whose records the words ask for.
+pub(crate) fn shown_spec(alloc: Global, words: &[Text]) -> Result<Spec, WordsRefusal>
+    ensures found { IfOk result (λ spec. shown_spec words.now ≡ Some spec) }
+    ensures usage { IsErrOf result WordsRefusal.Usage → shown_spec words.now ≡ None }
 {
     match words {
-        [command, word] if command.as_str() == "show" => name_word(alloc, word.as_str()),
+        [command, word] if command.as_str() == "show" => spec_word(alloc, word.as_str()),
         _ => Err(WordsRefusal::Usage),
     }
 }
 
-// The package name that a word is.
-fn name_word(alloc: Global, word: &str) -> Result<Name, WordsRefusal>
-    ensures found { IfOk result (λ name. name_word word.now ≡ Some name) }
-    ensures usage { IsErrOf result WordsRefusal.Usage → name_word word.now ≡ None }
+// The spec that a word is.
+fn spec_word(alloc: Global, word: &str) -> Result<Spec, WordsRefusal>
+    ensures found { IfOk result (λ spec. spec_word word.now ≡ Some spec) }
+    ensures usage { IsErrOf result WordsRefusal.Usage → spec_word word.now ≡ None }
 {
     if is_option(word) {
         return Err(WordsRefusal::Usage);
     }
-    match Name::read(alloc, word) {
-        Ok(name) => Ok(name),
-        Err(NameRefusal::Empty | NameRefusal::Char(_)) => Err(WordsRefusal::Usage),
-        Err(NameRefusal::Memory) => Err(WordsRefusal::Memory),
+    match Spec::read(alloc, word) {
+        Ok(spec) => Ok(spec),
+        Err(SpecRefusal::Fault(_)) => Err(WordsRefusal::Usage),
+        Err(SpecRefusal::Memory) => Err(WordsRefusal::Memory),
     }
 }
 

@@ -1,5 +1,5 @@
 -- A constraint has bytes of ASCII alone: each other byte would stand in a leaf, and no such leaf has a reading.
-use Rattle.std.proofs.Common.{◌≡◌, ◌==◌, ◌<◌, ◌≤◌, ◌+◌, ℕ, zero, suc, List, [], ◌∷◌, ◌++◌, Bool, true, false, length, map, reverse, drop, refl, sym, ap, ◌∙◌, arith, inl, inr, subst}
+use Rattle.std.proofs.Common.{◌≡◌, ◌==◌, ◌<◌, ◌≤◌, ◌+◌, ℕ, zero, suc, List, [], ◌∷◌, ◌++◌, Bool, true, false, length, map, reverse, drop, refl, sym, arith, inl, inr, subst}
 use Rattle.std.specs.Prelude.{◌&&◌, not, nat_lt, codes, Option, None, Some, Result, Ok, Err}
 use Rattle.std.specs.Cmp.Lexicographic.{bytes_decides}
 use Rattle.std.specs.List.{prefix_len, position_or_len}
@@ -10,11 +10,11 @@ use Rattle.std.proofs.lemmas.Bool.Decides.{nat_tests}
 use Rattle.std.proofs.lemmas.List.{reverse-append, reverse-reverse}
 use Rattle.std.proofs.lemmas.Str.{IsUtf8-from_ascii}
 use Rattle.gateway_words.specs.Ascii.{asterisk, dot, space}
-use Rattle.conda_version.specs.Constraint.{constraint_fault, ends_item, unless_fault}
+use Rattle.conda_version.specs.Constraint.{constraint_fault, unless_fault}
 use Rattle.conda_version.specs.Grammar.{first_wrong, has_underscore, is_wrong, version_of, version_unless}
-use Rattle.conda_version.specs.Leaf.{Test, behind_signs, body_of, body_unless, ends_in_star, inner_star, is_compatible, is_sign, is_text, leaf_by, leaf_of, operand_of, operator_of, sign_len, signs, strip_end, strip_front, version_text, versioned}
+use Rattle.conda_version.specs.Leaf.{behind_signs, body_of, body_unless, ends_in_star, inner_star, is_compatible, is_sign, is_text, leaf_by, leaf_of, operand_of, operator_of, sign_len, signs, strip_end, strip_front, version_text, versioned}
 use Rattle.conda_version.specs.Text.{drop_blanks, is_nil, skip_blanks}
-use Rattle.conda_version.specs.Token.{Open, Placed, Token, closed, ended_by, leaf, longer, open_behind, sign_of, tokens_from}
+use Rattle.conda_version.specs.Token.{Open, Placed, Token, closed, ended_by, longer, open_behind, sign_of, tokens_from}
 use Rattle.conda_version.specs.Version.{Value}
 use Rattle.conda_version.specs.declared.fault.ConstraintFault.{ConstraintFault}
 use Rattle.conda_version.specs.declared.fault.VersionFault.{VersionFault}

@@ -1,5 +1,5 @@
 -- The parts of a bracket, one after the other.
-use Rattle.std.proofs.Common.{◌≡◌, ◌<◌, ℕ, suc, zero, length, List, [], ◌∷◌, Option, Some, None, arith}
+use Rattle.std.proofs.Common.{ℕ, suc, length, Option, Some, None}
 use Rattle.match_spec.specs.declared.passage.Passage.{Passage as Held}
 
 -- how many bytes are left, and one for the part that they are

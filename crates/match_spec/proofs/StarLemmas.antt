@@ -1,6 +1,6 @@
 -- Builds with stars: the code's search for each piece finds what some texts for the stars give.
-use Rattle.std.proofs.Common.{◌≡◌, ◌==◌, ◌+◌, ◌-◌, ◌<◌, ◌≤◌, ℕ, zero, suc, List, [], ◌∷◌, ◌++◌, Bool, true, false, length, take, drop, refl, sym, ap, ◌∙◌, arith, inl, inr, subst, eq-eqb, append_assoc, length-append, get_or}
-use Rattle.std.specs.Prelude.{◌||◌, ◌&&◌, ◌↔◌, not, nat_eq, nat_lt, position, Option, None, Some, if◌then◌else◌}
+use Rattle.std.proofs.Common.{◌≡◌, ◌==◌, ◌+◌, ◌-◌, ◌<◌, ◌≤◌, ℕ, zero, suc, List, [], ◌∷◌, ◌++◌, Bool, true, false, length, drop, refl, sym, ap, ◌∙◌, arith, inl, inr, subst, append_assoc, length-append, get_or}
+use Rattle.std.specs.Prelude.{◌||◌, ◌&&◌, ◌↔◌, not, nat_eq, nat_lt, Option, None, Some}
 use Rattle.std.specs.Cmp.Lexicographic.{pointwise, unequal}
 use Rattle.std.specs.List.{ends_with, prefix_len, position_or_len, take_while, before_first, after_first}
 use Rattle.std.proofs.lemmas.Bool.{cases_Bool, false≢true}
@@ -9,7 +9,7 @@ use Rattle.std.proofs.lemmas.List.{drop-append-le}
 use Rattle.std.proofs.Math.Seq.{drop-append_seam}
 use Rattle.std.proofs.lemmas.List.Sums.{split_at_first, passes_at_first, take_while-cons}
 use Rattle.gateway_words.specs.Ascii.{asterisk}
-use Rattle.conda_version.specs.Text.{begins_at, cut_at, cut_by, is_nil}
+use Rattle.conda_version.specs.Text.{begins_at, cut_at, cut_by}
 use Rattle.match_spec.specs.StarBuild.{FitsBuild, behind_first, behind_start, filled, first_text, fits_build, later_texts, or_else, some_end, tail_of}
 
 -- no byte is a star

@@ -1,5 +1,5 @@
 -- Texts without their last byte.
-use Rattle.std.proofs.Common.{◌≡◌, ◌+◌, ◌-◌, ◌≤◌, ℕ, List, [], ◌∷◌, ◌++◌, length, take, reverse, refl, sym, ap, ◌∙◌, arith, subst, length-append}
+use Rattle.std.proofs.Common.{◌≡◌, ◌-◌, ℕ, List, [], ◌∷◌, ◌++◌, length, take, reverse, refl, sym, arith, subst, length-append}
 use Rattle.std.proofs.lemmas.List.{reverse-append, reverse-reverse, take_at}
 use Rattle.match_spec.specs.StarBuild.{tail_of}
 

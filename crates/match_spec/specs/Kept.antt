@@ -1,11 +1,11 @@
 -- The version and the build behind a name, without the blanks that don't count (docs/FORMATS.md, "Specs").
-use Rattle.std.specs.Prelude.{ℕ, suc, ◌+◌, ◌-◌, ◌==◌, ◌&&◌, ◌||◌, not, Bool, true, false, List, [], ◌∷◌, ◌++◌, length, reverse, take, drop, map, filter, position, codes, Option, Some, None, if◌then◌else◌}
+use Rattle.std.specs.Prelude.{ℕ, suc, ◌-◌, ◌==◌, ◌&&◌, ◌||◌, not, Bool, false, List, [], ◌∷◌, ◌++◌, length, reverse, take, drop, map, filter, codes, Option, Some, None, if◌then◌else◌}
 use Rattle.std.specs.Char.{is_ascii_alphanumeric}
 use Rattle.std.specs.List.{list_all, list_any}
 use Rattle.gateway_words.specs.Ascii.{asterisk, equals_sign, space}
 use Rattle.conda_version.specs.Grammar.{is_version_byte}
 use Rattle.conda_version.specs.Leaf.{ends_in_star, is_text, signs, strip_end, strip_front}
-use Rattle.conda_version.specs.Text.{begins_at, cut_at, drop_blanks, is_nil, skip_blanks}
+use Rattle.conda_version.specs.Text.{begins_at, cut_at, drop_blanks, skip_blanks}
 use Rattle.match_spec.specs.Signs.{is_mark}
 use Rattle.match_spec.specs.declared.kept.Placed.{Placed}
 

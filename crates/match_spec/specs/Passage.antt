@@ -1,5 +1,5 @@
 -- Passages of a text: some of its bytes, and the place where they stand in it.
-use Rattle.std.specs.Prelude.{ℕ, ◌+◌, ◌-◌, ◌==◌, List, [], ◌∷◌, length, take, drop, position, Option, Some, None}
+use Rattle.std.specs.Prelude.{ℕ, ◌+◌, ◌-◌, ◌==◌, List, length, take, drop, position, Option, Some, None}
 use Rattle.conda_version.specs.Text.{drop_blanks, skip_blanks}
 use Rattle.match_spec.specs.declared.passage.Passage.{Passage as Held}
 

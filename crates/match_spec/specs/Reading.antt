@@ -1,5 +1,5 @@
 -- What a text reads as a spec, or its first fault, step by step (docs/FORMATS.md, "Specs").
-use Rattle.std.specs.Prelude.{ℕ, suc, ◌+◌, ◌-◌, ◌==◌, ◌&&◌, not, Bool, true, false, List, [], ◌∷◌, length, reverse, take, drop, position, codes, is_some, Option, Some, None, Result, Ok, Err, if◌then◌else◌}
+use Rattle.std.specs.Prelude.{ℕ, ◌+◌, ◌-◌, ◌==◌, ◌&&◌, not, Bool, true, List, [], ◌∷◌, length, reverse, drop, position, codes, is_some, Option, Some, None, Result, Ok, Err, if◌then◌else◌}
 use Rattle.std.specs.List.{list_all}
 use Rattle.std.specs.Result.{result_ok}
 use Rattle.hex.specs.Hex.{decode_sized}
@@ -9,9 +9,9 @@ use Rattle.conda_name.specs.Dependency.{name_run}
 use Rattle.conda_name.specs.Name.{lower_case}
 use Rattle.conda_version.specs.Constraint.{constraint_of}
 use Rattle.conda_version.specs.Leaf.{before_last, is_text, turned_round}
-use Rattle.conda_version.specs.Text.{begins_at, cut_at, drop_blanks, is_nil, skip_blanks}
+use Rattle.conda_version.specs.Text.{begins_at, cut_at, is_nil, skip_blanks}
 use Rattle.conda_version.specs.declared.fault.ConstraintFault.{ConstraintFault}
-use Rattle.match_spec.specs.Bracket.{Entry, Halves, Value, bare, entries, halves_of, quoted, unclosed}
+use Rattle.match_spec.specs.Bracket.{Entry, Value, bare, entries, halves_of, quoted, unclosed}
 use Rattle.match_spec.specs.Kept.{bytes_of, form_constraint, form_of, kept, place_of_last}
 use Rattle.match_spec.specs.Number.{number_test}
 use Rattle.match_spec.specs.Parts.{Meaning, Parts, no_parts, replaced}
@@ -25,7 +25,6 @@ use Rattle.match_spec.specs.declared.fault.SpecRefusal.TheVariants as refusal
 use Rattle.match_spec.specs.declared.key.Key.{Key}
 use Rattle.match_spec.specs.declared.key.Key.TheVariants as key
 use Rattle.match_spec.specs.declared.kept.Placed.{Placed}
-use Rattle.match_spec.specs.declared.number.NumberTest.{NumberTest}
 
 -- what is read, or a fault
 abbrev pub Read : Type 0 → Type 0

@@ -1,6 +1,5 @@
 -- What the code's parts of a bracket stand for. No public clause cites it.
-use Rattle.std.specs.Prelude.{ℕ, List, [], ◌∷◌, length, drop, Bool, Option, Some, None, Result, Ok, Err, if◌then◌else◌}
-use Rattle.std.specs.Cmp.Lexicographic.{pointwise}
+use Rattle.std.specs.Prelude.{Option, Some, None, Result, Ok, Err}
 use Rattle.match_spec.specs.Bracket.{Entry, Halves, Value, bare, quoted, unclosed}
 use Rattle.match_spec.specs.Passage.{passage_in, passage_there}
 use Rattle.match_spec.specs.declared.bracket.Halves.{Halves as HeldHalves}

@@ -1,5 +1,5 @@
 -- Which builds a build with stars matches (docs/FORMATS.md, "Specs").
-use Rattle.std.specs.Prelude.{◌≡◌, ℕ, ◌==◌, ◌||◌, ◌&&◌, Bool, true, false, List, [], ◌∷◌, ◌++◌, Option, Some, None, if◌then◌else◌}
+use Rattle.std.specs.Prelude.{◌≡◌, ℕ, ◌==◌, ◌||◌, ◌&&◌, Bool, List, [], ◌∷◌, ◌++◌, Option, Some, None, if◌then◌else◌}
 use Rattle.gateway_words.specs.Ascii.{asterisk}
 use Rattle.conda_version.specs.Text.{begins_at, is_nil}
 

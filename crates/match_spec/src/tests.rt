@@ -2,183 +2,226 @@
 
 use crate::{Spec, SpecFault, SpecRefusal};
 use conda_record::PackageRecord;
-use mp_codec::{Cursor, put_bin, put_map, put_str, put_uint};
+use mp_codec::Cursor;
 use std::alloc::Global;
+use std::process::Abort;
 use std::test::*;
 
-// A record: its name, version, build and build number, the byte that its MD5 digest and its SHA-256
-// digest repeat, where it has them; and the channel, the subdir and the file name that list it.
-#[derive(Clone, Copy)]
-struct Listed(
-    (&'static str, &'static str, &'static str, u64),
-    (Option<u8>, Option<u8>),
-    (&'static str, &'static str, &'static str),
-);
-
-const LISTED: [Listed; 12] = [
-    Listed(
-        ("foo", "1.0", "py27_0", 0),
-        (None, None),
-        ("conda-forge", "linux-64", "foo-1.0-py27_0.conda"),
+// Records as they are spelled, each with the channel, the subdir and the file name that list it.
+const LISTED: [(&[u8], &str, &str, &str); 12] = [
+    (
+        b"\x84\
+        \xa4name\xa3foo\xa7version\xa31.0\xa5build\xa6py27_0\
+        \xacbuild_number\x00",
+        "conda-forge",
+        "linux-64",
+        "foo-1.0-py27_0.conda",
     ),
-    Listed(
-        ("foo", "1.0.5", "py27_0", 1),
-        (None, None),
-        ("conda-forge", "linux-64", "foo-1.0.5-py27_0.conda"),
+    (
+        b"\x84\
+        \xa4name\xa3foo\xa7version\xa51.0.5\xa5build\xa6py27_0\
+        \xacbuild_number\x01",
+        "conda-forge",
+        "linux-64",
+        "foo-1.0.5-py27_0.conda",
     ),
-    Listed(
-        ("foo", "1.0.0", "py27_0", 2),
-        (None, None),
-        ("conda-forge", "noarch", "foo-1.0.0-py27_0.conda"),
+    (
+        b"\x84\
+        \xa4name\xa3foo\xa7version\xa51.0.0\xa5build\xa6py27_0\
+        \xacbuild_number\x02",
+        "conda-forge",
+        "noarch",
+        "foo-1.0.0-py27_0.conda",
     ),
-    Listed(
-        ("foo", "1.4.9", "py27_0", 10),
-        (None, None),
-        ("bioconda", "linux-64", "foo-1.4.9-py27_0.conda"),
+    (
+        b"\x84\
+        \xa4name\xa3foo\xa7version\xa51.4.9\xa5build\xa6py27_0\
+        \xacbuild_number\x0a",
+        "bioconda",
+        "linux-64",
+        "foo-1.4.9-py27_0.conda",
     ),
-    Listed(
-        ("foo", "1.5", "py27_0", 18446744073709551615),
-        (None, None),
-        ("bioconda", "noarch", "foo-1.5-py27_0.conda"),
+    (
+        b"\x84\
+        \xa4name\xa3foo\xa7version\xa31.5\xa5build\xa6py27_0\
+        \xacbuild_number\xcf\xff\xff\xff\xff\xff\xff\xff\xff",
+        "bioconda",
+        "noarch",
+        "foo-1.5-py27_0.conda",
     ),
-    Listed(
-        ("Foo", "2.0", "py310h1_0", 0),
-        (Some(0xab), None),
-        ("bioconda", "noarch", "Foo-2.0-py310h1_0.conda"),
+    (
+        b"\x85\
+        \xa4name\xa3Foo\xa7version\xa32.0\xa5build\xa9py310h1_0\
+        \xacbuild_number\x00\
+        \xa3md5\xc4\x10\xab\xab\xab\xab\xab\xab\xab\xab\xab\xab\xab\xab\xab\xab\xab\xab",
+        "bioconda",
+        "noarch",
+        "Foo-2.0-py310h1_0.conda",
     ),
-    Listed(
-        ("foo", "2.1", "cuda_py310", 5),
-        (None, Some(0xcd)),
-        ("conda-forge", "noarch", "foo-2.1-cuda_py310.conda"),
+    (
+        b"\x85\
+        \xa4name\xa3foo\xa7version\xa32.1\xa5build\xaacuda_py310\
+        \xacbuild_number\x05\
+        \xa6sha256\xc4\x20\xcd\xcd\xcd\xcd\xcd\xcd\xcd\xcd\xcd\xcd\xcd\xcd\xcd\xcd\xcd\xcd\xcd\xcd\xcd\xcd\xcd\xcd\xcd\xcd\xcd\xcd\xcd\xcd\xcd\xcd\xcd\xcd",
+        "conda-forge",
+        "noarch",
+        "foo-2.1-cuda_py310.conda",
     ),
-    Listed(
-        ("foo", "?", "0", 3),
-        (None, None),
-        ("local", "linux-64", "q.conda"),
+    (
+        b"\x84\
+        \xa4name\xa3foo\xa7version\xa1?\xa5build\xa10\
+        \xacbuild_number\x03",
+        "local",
+        "linux-64",
+        "q.conda",
     ),
-    Listed(
-        ("foo", "1.0a", "py", 7),
-        (Some(0xab), Some(0xcd)),
-        ("conda-forge", "linux-64", "foo, 1.0a.conda"),
+    (
+        b"\x86\
+        \xa4name\xa3foo\xa7version\xa41.0a\xa5build\xa2py\
+        \xacbuild_number\x07\
+        \xa3md5\xc4\x10\xab\xab\xab\xab\xab\xab\xab\xab\xab\xab\xab\xab\xab\xab\xab\xab\
+        \xa6sha256\xc4\x20\xcd\xcd\xcd\xcd\xcd\xcd\xcd\xcd\xcd\xcd\xcd\xcd\xcd\xcd\xcd\xcd\xcd\xcd\xcd\xcd\xcd\xcd\xcd\xcd\xcd\xcd\xcd\xcd\xcd\xcd\xcd\xcd",
+        "conda-forge",
+        "linux-64",
+        "foo, 1.0a.conda",
     ),
-    Listed(
-        ("bar", "1.0", "py27_0", 0),
-        (None, None),
-        ("conda-forge", "linux-64", "bar-1.0-py27_0.conda"),
+    (
+        b"\x84\
+        \xa4name\xa3bar\xa7version\xa31.0\xa5build\xa6py27_0\
+        \xacbuild_number\x00",
+        "conda-forge",
+        "linux-64",
+        "bar-1.0-py27_0.conda",
     ),
-    Listed(("foo", "1!1.0", "", 0), (None, None), ("a::b", "s s", "x")),
-    Listed(
-        ("foo", "3", "a*b", 4),
-        (Some(0x00), None),
-        ("https://h/c", "linux-64", "foo-3.conda"),
+    (
+        b"\x84\
+        \xa4name\xa3foo\xa7version\xa51!1.0\xa5build\xa0\
+        \xacbuild_number\x00",
+        "a::b",
+        "s s",
+        "x",
+    ),
+    (
+        b"\x85\
+        \xa4name\xa3foo\xa7version\xa13\xa5build\xa3a*b\
+        \xacbuild_number\x04\
+        \xa3md5\xc4\x10\x00\x00\x00\x00\x00\x00\x00\x00\x00\x00\x00\x00\x00\x00\x00\x00",
+        "https://h/c",
+        "linux-64",
+        "foo-3.conda",
     ),
 ];
 
-// A spec, and for each of these records whether it matches.
-const MATCHES: [(&str, &str); 89] = [
-    ("foo", "111111111011"),
-    ("FOO", "111111111011"),
-    ("bar", "000000000100"),
-    ("baz", "000000000000"),
-    ("foo=1.0", "111000001000"),
-    ("foo 1.0.*", "111000001000"),
-    ("foo==1.0", "101000000000"),
-    ("foo 1.0", "101000000000"),
-    ("foo=1.0=py27_0", "101000000000"),
-    ("foo~=1.4.2", "000100000000"),
-    ("foo=*=py*", "111111001000"),
-    ("foo >=1.0", "111111100011"),
-    ("foo>=1.0,<2", "111110000000"),
-    ("foo >= 1.0 , < 2", "111110000000"),
-    ("foo <1.0", "000000001000"),
-    ("foo <=1.0", "101000001000"),
-    ("foo >2", "000000100011"),
-    ("foo !=1.0", "010111101011"),
-    ("foo !=1.0.*", "000111100011"),
-    ("foo 1.0|1.5", "101010000000"),
-    ("foo 1.0  |  1.5", "101010000000"),
-    ("foo ( 1.0 | 1.5 ) , != 1.0.0", "000010000000"),
-    ("foo *", "111111111011"),
-    ("foo =*", "111111111011"),
-    ("foo ~=1.0", "111110000000"),
-    ("foo 1!1", "000000000010"),
-    ("foo=1!1.0=*", "000000000010"),
-    ("foo 1.0 py27_0", "101000000000"),
-    ("foo  1.0   py*  ", "101000000000"),
-    ("foo * *", "111111111011"),
-    ("foo * **", "111111111011"),
-    ("foo * *_0", "111111000000"),
-    ("foo * *py*", "111111101000"),
-    ("foo * p*2*0", "111110000000"),
-    ("foo * *_*_*", "000000000000"),
-    ("foo * a*b", "000000000001"),
-    ("foo * py27_0*", "111110000000"),
-    ("foo * PY*", "000000000000"),
-    ("foo * py310h1", "000000000000"),
-    ("foo=1.0*=py27_0", "111000000000"),
-    ("foo==1.0=py27_0", "101000000000"),
-    ("foo=1.0.*=*", "111000001000"),
-    ("foo= 1.0=py27_0", "101000000000"),
-    ("foo=1.0=*_0", "101000000000"),
-    ("conda-forge::foo", "111000101000"),
-    ("conda-forge/linux-64::foo", "110000001000"),
-    ("bioconda/noarch::foo", "000011000000"),
-    ("a::b::foo", "000000000010"),
-    ("a::b/s s::foo", "000000000010"),
-    ("https://h/c/linux-64::foo", "000000000001"),
-    ("  conda-forge::  foo  ", "111000101000"),
-    ("conda::foo", "000000000000"),
-    ("foo[version=1.0]", "101000000000"),
-    ("foo[version='>=1.0,<2']", "111110000000"),
-    ("foo[version=\">=1.0,<2\"]", "111110000000"),
-    ("foo[version=>=1.4]", "000111100011"),
-    ("foo[version=\" 1.0 \"]", "101000000000"),
-    ("foo[build=py27_0]", "111110000000"),
-    ("foo[build='*310*']", "000001100000"),
-    ("foo[build_number=0]", "100001000010"),
-    ("foo[build_number=010]", "000100000000"),
-    ("foo[build_number=\"==5\"]", "000000100000"),
-    ("foo[build_number='!=0']", "011110111001"),
-    ("foo[build_number='<3']", "111001000010"),
-    ("foo[build_number=<=3]", "111001010010"),
-    ("foo[build_number=\">4\"]", "000110101000"),
-    ("foo[build_number=\">=4\"]", "000110101001"),
-    ("foo[build_number=>9]", "000110000000"),
-    ("foo[build_number=18446744073709551615]", "000010000000"),
-    ("foo[channel=bioconda]", "000111000000"),
-    ("foo[channel=\"a::b\"]", "000000000010"),
-    ("foo[subdir=noarch]", "001011100000"),
-    ("foo[ subdir = 's s' ]", "000000000010"),
-    ("foo[md5=abababababababababababababababab]", "000001001000"),
-    ("foo[md5=ABABABABABABABABABABABABABABABAB]", "000001001000"),
-    ("foo[md5=00000000000000000000000000000000]", "000000000001"),
+// Specs without a bracket, and for each of these records whether it matches, the first one in the
+// highest bit.
+const OUTSIDE: [(&str, u16); 52] = [
+    ("foo", 0b111111111011),
+    ("FOO", 0b111111111011),
+    ("bar", 0b000000000100),
+    ("baz", 0b000000000000),
+    ("foo=1.0", 0b111000001000),
+    ("foo 1.0.*", 0b111000001000),
+    ("foo==1.0", 0b101000000000),
+    ("foo 1.0", 0b101000000000),
+    ("foo=1.0=py27_0", 0b101000000000),
+    ("foo~=1.4.2", 0b000100000000),
+    ("foo=*=py*", 0b111111001000),
+    ("foo >=1.0", 0b111111100011),
+    ("foo>=1.0,<2", 0b111110000000),
+    ("foo >= 1.0 , < 2", 0b111110000000),
+    ("foo <1.0", 0b000000001000),
+    ("foo <=1.0", 0b101000001000),
+    ("foo >2", 0b000000100011),
+    ("foo !=1.0", 0b010111101011),
+    ("foo !=1.0.*", 0b000111100011),
+    ("foo 1.0|1.5", 0b101010000000),
+    ("foo 1.0  |  1.5", 0b101010000000),
+    ("foo ( 1.0 | 1.5 ) , != 1.0.0", 0b000010000000),
+    ("foo *", 0b111111111011),
+    ("foo =*", 0b111111111011),
+    ("foo ~=1.0", 0b111110000000),
+    ("foo 1!1", 0b000000000010),
+    ("foo=1!1.0=*", 0b000000000010),
+    ("foo 1.0 py27_0", 0b101000000000),
+    ("foo  1.0   py*  ", 0b101000000000),
+    ("foo * *", 0b111111111011),
+    ("foo * **", 0b111111111011),
+    ("foo * *_0", 0b111111000000),
+    ("foo * *py*", 0b111111101000),
+    ("foo * p*2*0", 0b111110000000),
+    ("foo * *_*_*", 0b000000000000),
+    ("foo * a*b", 0b000000000001),
+    ("foo * py27_0*", 0b111110000000),
+    ("foo * PY*", 0b000000000000),
+    ("foo * py310h1", 0b000000000000),
+    ("foo=1.0*=py27_0", 0b111000000000),
+    ("foo==1.0=py27_0", 0b101000000000),
+    ("foo=1.0.*=*", 0b111000001000),
+    ("foo= 1.0=py27_0", 0b101000000000),
+    ("foo=1.0=*_0", 0b101000000000),
+    ("conda-forge::foo", 0b111000101000),
+    ("conda-forge/linux-64::foo", 0b110000001000),
+    ("bioconda/noarch::foo", 0b000011000000),
+    ("a::b::foo", 0b000000000010),
+    ("a::b/s s::foo", 0b000000000010),
+    ("https://h/c/linux-64::foo", 0b000000000001),
+    ("  conda-forge::  foo  ", 0b111000101000),
+    ("conda::foo", 0b000000000000),
+];
+
+// The same of specs with a bracket.
+const BRACKETS: [(&str, u16); 37] = [
+    ("foo[version=1.0]", 0b101000000000),
+    ("foo[version='>=1.0,<2']", 0b111110000000),
+    ("foo[version=\">=1.0,<2\"]", 0b111110000000),
+    ("foo[version=>=1.4]", 0b000111100011),
+    ("foo[version=\" 1.0 \"]", 0b101000000000),
+    ("foo[build=py27_0]", 0b111110000000),
+    ("foo[build='*310*']", 0b000001100000),
+    ("foo[build_number=0]", 0b100001000010),
+    ("foo[build_number=010]", 0b000100000000),
+    ("foo[build_number=\"==5\"]", 0b000000100000),
+    ("foo[build_number='!=0']", 0b011110111001),
+    ("foo[build_number='<3']", 0b111001000010),
+    ("foo[build_number=<=3]", 0b111001010010),
+    ("foo[build_number=\">4\"]", 0b000110101000),
+    ("foo[build_number=\">=4\"]", 0b000110101001),
+    ("foo[build_number=>9]", 0b000110000000),
+    ("foo[build_number=18446744073709551615]", 0b000010000000),
+    ("foo[channel=bioconda]", 0b000111000000),
+    ("foo[channel=\"a::b\"]", 0b000000000010),
+    ("foo[subdir=noarch]", 0b001011100000),
+    ("foo[ subdir = 's s' ]", 0b000000000010),
+    ("foo[md5=abababababababababababababababab]", 0b000001001000),
+    ("foo[md5=ABABABABABABABABABABABABABABABAB]", 0b000001001000),
+    ("foo[md5=00000000000000000000000000000000]", 0b000000000001),
     (
         "foo[sha256=cdcdcdcdcdcdcdcdcdcdcdcdcdcdcdcdcdcdcdcdcdcdcdcdcdcdcdcdcdcdcdcd]",
-        "000000101000",
+        0b000000101000,
     ),
     (
         "foo[md5='abababababababababababababababab',sha256=CDCDCDCDCDCDCDCDCDCDCDCDCDCDCDCDCDCDCDCDCDCDCDCDCDCDCDCDCDCDCDCD]",
-        "000000001000",
+        0b000000001000,
     ),
-    ("foo[fn=foo-1.0-py27_0.conda]", "100000000000"),
-    ("foo[fn=\"foo, 1.0a.conda\"]", "000000001000"),
-    ("foo[fn='q.conda']", "000000010000"),
-    ("foo[fn=a[b]", "000000000000"),
-    ("foo 1.5[version=1.0]", "101000000000"),
+    ("foo[fn=foo-1.0-py27_0.conda]", 0b100000000000),
+    ("foo[fn=\"foo, 1.0a.conda\"]", 0b000000001000),
+    ("foo[fn='q.conda']", 0b000000010000),
+    ("foo[fn=a[b]", 0b000000000000),
+    ("foo 1.5[version=1.0]", 0b101000000000),
     (
         "foo 1.0 py27_0[build=py310h1_0,version=2.0]",
-        "000001000000",
+        0b000001000000,
     ),
     (
         "bioconda/linux-64::foo[channel=conda-forge]",
-        "110000001000",
+        0b110000001000,
     ),
-    ("conda-forge/noarch::foo[subdir=linux-64]", "110000001000"),
-    ("foo[]", "111111111011"),
-    ("foo [  ]", "111111111011"),
+    ("conda-forge/noarch::foo[subdir=linux-64]", 0b110000001000),
+    ("foo[]", 0b111111111011),
+    ("foo [  ]", 0b111111111011),
     (
         "conda-forge/noarch::FOO >=2 *py310 [build_number=5, sha256='cdcdcdcdcdcdcdcdcdcdcdcdcdcdcdcdcdcdcdcdcdcdcdcdcdcdcdcdcdcdcdcd' , fn=foo-2.1-cuda_py310.conda]",
-        "000000100000",
+        0b000000100000,
     ),
 ];
 
@@ -290,34 +333,6 @@ const REFUSED: [(&str, SpecFault); 96] = [
     ("a =>1[version=1]", SpecFault::Version(2)),
 ];
 
-// The record as it is read.
-fn record(alloc: Global, listed: Listed) -> Result<PackageRecord, Fail> {
-    let Listed((name, version, build, number), (md5, sha256), _) = listed;
-    let mut bytes = Vec::new(alloc);
-    put_map(
-        &mut bytes,
-        4 + u32::from(md5.is_some()) + u32::from(sha256.is_some()),
-    )?;
-    for (key, text) in [("name", name), ("version", version), ("build", build)] {
-        put_str(&mut bytes, key)?;
-        put_str(&mut bytes, text)?;
-    }
-    put_str(&mut bytes, "build_number")?;
-    put_uint(&mut bytes, number)?;
-    if let Some(byte) = md5 {
-        put_str(&mut bytes, "md5")?;
-        put_bin(&mut bytes, &[byte; 16])?;
-    }
-    if let Some(byte) = sha256 {
-        put_str(&mut bytes, "sha256")?;
-        put_bin(&mut bytes, &[byte; 32])?;
-    }
-    match PackageRecord::read(alloc, &mut Cursor::new(bytes.as_slice())) {
-        Ok(record) => Ok(record),
-        Err(refusal) => Err(refusal.into()),
-    }
-}
-
 fn spec(alloc: Global, text: &str) -> Result<Spec, Fail> {
     match Spec::read(alloc, text) {
         Ok(spec) => Ok(spec),
@@ -325,24 +340,59 @@ fn spec(alloc: Global, text: &str) -> Result<Spec, Fail> {
     }
 }
 
-// For each record `1` where the spec matches it, and else `0`.
-fn answers(alloc: Global, text: &str) -> Result<String, Fail> {
+// Whether a spec matches the record that some bytes spell.
+fn matches(
+    alloc: Global,
+    spec: &Spec,
+    bytes: &[u8],
+    place: (&str, &str, &str),
+) -> Result<bool, Fail> {
+    let (channel, subdir, file) = place;
+    match PackageRecord::read(alloc, &mut Cursor::new(bytes)) {
+        Ok(record) => Ok(spec.matches(record.view(), channel, subdir, file)),
+        Err(refusal) => Err(refusal.into()),
+    }
+}
+
+// For each record a bit that says whether the spec matches it, the last one in the lowest bit.
+fn answers(alloc: Global, text: &str) -> Result<u16, Fail> {
     let spec = spec(alloc, text)?;
-    let mut answers = String::new(alloc);
-    for listed in LISTED {
-        let record = record(alloc, listed)?;
-        let Listed(_, _, (channel, subdir, file)) = listed;
-        let matches = spec.matches(record.view(), channel, subdir, file);
-        answers.push_str(if matches { "1" } else { "0" })?;
+    let mut answers = 0u16;
+    for (bytes, channel, subdir, file) in LISTED {
+        let is_match = matches(alloc, &spec, bytes, (channel, subdir, file))?;
+        answers = answers.wrapping_mul(2) | u16::from(is_match);
     }
     Ok(answers)
 }
 
+// Stops where a spec doesn't match the records that it should.
+fn expect_answers(rt: &impl Abort, alloc: Global, text: &str, wanted: u16) -> Result<(), Fail> {
+    let found = answers(alloc, text)?;
+    assert!(rt; found == wanted, "{text}: {found:b}");
+    Ok(())
+}
+
+// Stops where a text isn't refused as it should be.
+fn expect_refusal(rt: &impl Abort, alloc: Global, text: &str, fault: SpecFault) {
+    let refusal = Spec::read(alloc, text).err();
+    assert!(rt;
+        refusal == Some(SpecRefusal::Fault(fault)),
+        "{text}: {refusal:?}"
+    );
+}
+
 #[test]
 fn specs_match_records(rt: HostRuntime) -> Result<(), Fail> {
-    for (text, wanted) in MATCHES {
-        let found = answers(rt.alloc(), text)?;
-        assert!(rt; found.as_str() == wanted, "{text}: {found}");
+    for (text, wanted) in OUTSIDE {
+        expect_answers(&rt, rt.alloc(), text, wanted)?;
+    }
+    Ok(())
+}
+
+#[test]
+fn brackets_match_records(rt: HostRuntime) -> Result<(), Fail> {
+    for (text, wanted) in BRACKETS {
+        expect_answers(&rt, rt.alloc(), text, wanted)?;
     }
     Ok(())
 }
@@ -357,10 +407,6 @@ fn the_name_is_in_lower_case(rt: HostRuntime) -> Result<(), Fail> {
 #[test]
 fn refuses_what_is_no_spec(rt: HostRuntime) {
     for (text, fault) in REFUSED {
-        let refusal = Spec::read(rt.alloc(), text).err();
-        assert!(rt;
-            refusal == Some(SpecRefusal::Fault(fault)),
-            "{text}: {refusal:?}"
-        );
+        expect_refusal(&rt, rt.alloc(), text, fault);
     }
 }

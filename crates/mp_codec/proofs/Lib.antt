@@ -18,3 +18,4 @@ pub mod OwedLemmas
 pub mod WritingLemmas
 pub mod WrittenLemmas
 pub mod AppendLemmas
+pub mod ShortestLemmas

@@ -1,37 +1,38 @@
 -- A shard that is written is read again as its rows.
-use Rattle.std.proofs.Common.{◌≡◌, refl, sym, ◌∙◌, ap, subst, ℕ, zero, suc, ◌+◌, ◌<◌, ◌≤◌, ◌^◌, ◌⊎◌, inl, inr, Bool, true, false, not, cond, ◌||◌, ◌&&◌, List, [], ◌∷◌, ◌++◌, length, filter, get_or, arith, append_assoc, append-nil}
-use Rattle.std.specs.Prelude.{Result, Ok, Err, Option, Some, None, IfSome}
+use Rattle.std.proofs.Common.{◌≡◌, refl, sym, ◌∙◌, ap, subst, ℕ, zero, suc, ◌+◌, ◌*◌, ◌<◌, ◌≤◌, ◌^◌, Bool, true, false, not, cond, ◌||◌, ◌&&◌, List, [], ◌∷◌, ◌++◌, length, filter, get_or, arith, append_assoc, append-nil}
+use Rattle.std.specs.Prelude.{Ok, Err, Option, Some, IfSome}
 use Rattle.std.specs.declared.cmp.Ordering.{Ordering}
 use Rattle.std.specs.declared.cmp.Ordering.TheVariants.{Less, Equal, Greater}
 use Rattle.std.specs.Ordering.{nat_cmp, bool_cmp, is_lt, ordering_then, ordering_reverse}
 use Rattle.std.specs.Cmp.Lexicographic.{slice_cmp}
-use Rattle.std.specs.List.{All, AllByRecursion, flat_map, list_any}
+use Rattle.std.specs.List.{All, AllByRecursion, flat_map}
 use Rattle.std.specs.List.Sorted.{IsSortedBy, IsStableBy, IsStrictlySortedBy, ties}
-use Rattle.std.specs.Str.{bytes_eq, is_utf8}
+use Rattle.std.specs.Str.{bytes_eq}
 use Rattle.std.proofs.lemmas.Cmp.{nat_list_cmp_total}
 use Rattle.std.proofs.lemmas.List.Elements.{filter-append}
 use Rattle.std.proofs.lemmas.List.Kept.{IsStrictlySortedBy-filter}
 use Rattle.std.proofs.lemmas.Slice.Eq.{bytes_eq-Decides}
-use Rattle.gateway_words.specs.Places.{Position, Between}
+use Rattle.gateway_words.specs.Places.{Position}
 use Rattle.gateway_words.specs.Reading.{◌>>=◌}
-use Rattle.mp_codec.specs.declared.fault.FormatFault.{FormatFault}
 use Rattle.mp_codec.specs.declared.fault.FaultKind.TheVariants as kind
 use Rattle.mp_codec.specs.Fault.{fault_here}
-use Rattle.mp_codec.specs.Maps.{Read, text_from, entries_from, known_map_from, all_from}
-use Rattle.mp_codec.specs.Writing.{str_bytes, array_head, map_head, known_map_bytes}
+use Rattle.mp_codec.specs.Maps.{Read, text_from, entries_from, known_map_from}
+use Rattle.mp_codec.specs.Writing.{str_bytes, array_head, known_map_bytes}
 use Rattle.mp_codec.proofs.BindLemmas.{bind_ok}
-use Rattle.mp_codec.proofs.MappedLemmas.{turned}
 use Rattle.mp_codec.proofs.UniqueLemmas.{one_value}
 use Rattle.mp_codec.specs.Value.{Value}
-use Rattle.mp_codec.proofs.WrittenLemmas.{Halves, halves, nothing_between, ReadAs, read_all, text_read_back, map_read_back, skipped_back, no_elements, no_elements_spelled, Written, known_map_written}
-use Rattle.conda_record.specs.Record.{Fields, RecordAt}
+use Rattle.mp_codec.proofs.WrittenLemmas.{Halves, halves, nothing_between, ReadAs, read_all, text_read_back, map_read_back, skipped_back, no_elements, no_elements_spelled, known_map_written}
+use Rattle.mp_codec.specs.Spelling.{Spells}
+use Rattle.mp_codec.specs.Writing.{IsShortest}
+use Rattle.mp_codec.proofs.ShortestLemmas.{IsTight, AreTight, tight_str, tight_array, tight_map, tight_none, tight_one_more, tight_known_map, pointwise, names_short, shortest}
+use Rattle.conda_record.specs.Record.{Fields}
 use Rattle.conda_record.specs.Reading.{record_from}
-use Rattle.conda_record.specs.Writing.{record_bytes, IsShort, AreText, IsReadAgain}
+use Rattle.conda_record.specs.Writing.{record_bytes, IsReadAgain}
 use Rattle.conda_record.proofs.RecordLemmas.{record_at_read}
-use Rattle.conda_record.proofs.WrittenLemmas.{read_again as record_again}
+use Rattle.conda_record.proofs.WrittenLemmas.{read_again as record_again, tight_record}
 use Rattle.shard_file.specs.Rows.{Row, shard_keys, rows_of, file_lt, ShardOf}
 use Rattle.shard_file.specs.Names.{new_name_from}
-use Rattle.shard_file.specs.Reading.{has_file, file_key_from, file_value_from, file_end_from, files_after, files_from, member_from, rows_at, shard_from, rows_from}
+use Rattle.shard_file.specs.Reading.{has_file, file_key_from, file_value_from, files_after, files_from, member_from, shard_from, rows_from}
 use Rattle.shard_file.specs.Writing.{stands_in, rows_under, file_bytes, files_bytes, shard_bytes, row_cmp, IsWritableRow, AreWritable, IsReadableRow, IsRow}
 use Rattle.shard_file.proofs.SortLemmas.{file_order, one_sort}
 use Rattle.shard_file.proofs.ShardLemmas.{differ, all_rows, shard_is, shard_found}
@@ -161,11 +162,6 @@ under_few conda (r ∷ rows) = go (stands_in conda r) (under_few conda rows)
 recursive : {X : Type 0} (P : X → Type 0) (xs : List X) → All P xs → AllByRecursion P xs
 recursive P [] all = tt
 recursive P (x ∷ xs) all = (all_first P x xs all, recursive P xs (all_others P x xs all))
-
-pointwise : {X : Type 0} (P : X → Type 0) (xs : List X) → AllByRecursion P xs → All P xs
-pointwise P [] all k d lt = absurd (omega arith)
-pointwise P (x ∷ xs) all zero d lt = all.0
-pointwise P (x ∷ xs) all (suc k) d lt = pointwise P xs all.1 k d (omega arith)
 
 filtered : {X : Type 0} (P : X → Type 0) (p : X → Bool) (xs : List X) → AllByRecursion P xs → AllByRecursion P (filter p xs)
 filtered P p [] all = tt
@@ -309,3 +305,35 @@ same_rows rows others w are v too e =
     let value : one.value ≡ two.value = one_value one.value two.value (shard_bytes rows) one.spelled two.spelled in
     let in_order : IsStableBy file_lt (rows_of two.value) rows = subst (λ (u : Value). IsStableBy file_lt (rows_of u) rows) value one.in_order in
     one_sort file_lt file_order rows others one.ascending two.ascending (λ x. two.in_order x ∙ sym (in_order x))
+
+-- ---- no spelling of the value that a shard is has fewer bytes
+
+tight_rows : (rows : List Row) → AllByRecursion (λ (r : Row). IsTight (str_bytes r.file) × IsTight (record_bytes r.fields)) rows → AreTight (length rows * 2) (flat_map file_bytes rows)
+unfolding file_bytes
+tight_rows [] each = tight_none
+tight_rows (r ∷ rows) each =
+    let two : suc (suc (length rows * 2)) ≡ suc (length rows) * 2 = omega arith in
+    subst (λ (n : ℕ). AreTight n ((str_bytes r.file ++ record_bytes r.fields) ++ flat_map file_bytes rows)) two
+    (subst (λ (b : List ℕ). AreTight (suc (suc (length rows * 2))) b) (sym (append_assoc (str_bytes r.file) (record_bytes r.fields) (flat_map file_bytes rows)))
+    (tight_one_more (suc (length rows * 2)) (str_bytes r.file) (record_bytes r.fields ++ flat_map file_bytes rows) each.0.0
+    (tight_one_more (length rows * 2) (record_bytes r.fields) (flat_map file_bytes rows) each.0.1 (tight_rows rows each.1))))
+
+tight_under : (conda : Bool) (rows : List Row) → AreWritable rows → All IsRow rows → IsTight (files_bytes (rows_under conda rows))
+unfolding files_bytes
+tight_under conda rows w are =
+    let few = under_few conda rows in
+    let most : length rows < 2 ^ 32 = w.few in
+    tight_map (length (rows_under conda rows)) (flat_map file_bytes (rows_under conda rows)) (omega (arith, few))
+    (tight_rows (rows_under conda rows) (recursive (λ (r : Row). IsTight (str_bytes r.file) × IsTight (record_bytes r.fields)) (rows_under conda rows)
+    (under_all (λ (r : Row). IsTight (str_bytes r.file) × IsTight (record_bytes r.fields)) conda rows (λ k d lt.
+    (tight_str (get_or rows k d).file (w.each k d lt).file_short, tight_record (get_or rows k d).fields (w.each k d lt).record_writable (are k d lt).fields)))))
+
+pub shortest_shard : (rows : List Row) → AreWritable rows → All IsRow rows → (v : Value) → Spells v (shard_bytes rows) → IsShortest v (shard_bytes rows)
+unfolding shard_bytes
+shortest_shard rows w are =
+    shortest (known_map_bytes shard_keys (values rows))
+    (tight_known_map shard_keys (values rows) refl (omega arith) (names_short shard_keys refl)
+    (pointwise (λ (v : Option (List ℕ)). IfSome v IsTight) (values rows) (tight_under false rows w are, (tight_under true rows w are, (empty, tt)))))
+  where
+    empty : IsTight (array_head 0)
+    empty = subst IsTight (append-nil (array_head 0)) (tight_array 0 [] (omega arith) tight_none)

@@ -3,6 +3,9 @@
 
 ghost use Rattle.std.specs.Prelude.{◌≡◌, List};
 ghost use Rattle.std.specs.List.{All};
+ghost use Rattle.mp_codec.specs.Value.{Value};
+ghost use Rattle.mp_codec.specs.Spelling.{Spells};
+ghost use Rattle.mp_codec.specs.Writing.{IsShortest};
 ghost use Rattle.shard_file.specs.Rows.{Row, ShardOf};
 ghost use Rattle.shard_file.specs.Writing.{shard_bytes, AreWritable, IsRow};
 
@@ -16,4 +19,7 @@ pub fn a_written_shard_is_read()
     ensures apart { (rows others : List Row) → AreWritable rows → All IsRow rows
         → AreWritable others → All IsRow others → shard_bytes rows ≡ shard_bytes others
         → rows ≡ others }
+    // No spelling of the value that was written has fewer bytes.
+    ensures shortest { (rows : List Row) → AreWritable rows → All IsRow rows → (v : Value)
+        → Spells v (shard_bytes rows) → IsShortest v (shard_bytes rows) }
 {}

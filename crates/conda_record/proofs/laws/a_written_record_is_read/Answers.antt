@@ -1,6 +1,6 @@
 use Rattle.std.proofs.Common.{ap}
 use Rattle.conda_record.specs.Writing.{record_bytes}
-use Rattle.conda_record.proofs.WrittenLemmas.{read_again, same_fields}
+use Rattle.conda_record.proofs.WrittenLemmas.{read_again, same_fields, shortest_record}
 use Rattle.conda_record.proofs.laws.a_written_record_is_read.Goals as goal
 
 pub returns-clause-read : goal.returns-clause-read
@@ -11,3 +11,6 @@ returns-clause-equal c = λ f g e. ap record_bytes e
 
 pub returns-clause-apart : goal.returns-clause-apart
 returns-clause-apart c = same_fields
+
+pub returns-clause-shortest : goal.returns-clause-shortest
+returns-clause-shortest c = shortest_record

@@ -1,4 +1,4 @@
-use Rattle.std.proofs.Common.{◌≡◌, ◌≤◌, ℕ, suc, length, Option}
+use Rattle.std.proofs.Common.{◌≡◌, ◌≤◌, ℕ}
 use Rattle.match_spec.specs.Bracket.{entries, entries_within}
 use Rattle.match_spec.specs.Parts.{no_parts}
 use Rattle.match_spec.specs.Passage.{passage_in, passage_there}

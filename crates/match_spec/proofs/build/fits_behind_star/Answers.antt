@@ -1,4 +1,4 @@
-use Rattle.std.proofs.Common.{◌≡◌, sym, ◌∙◌, ap}
+use Rattle.std.proofs.Common.{sym, ◌∙◌, ap}
 use Rattle.match_spec.specs.StarBuild.{fits_build, some_end}
 use Rattle.match_spec.proofs.StarLemmas.{cut-none, cut-some, passed_by, some-last, some-piece}
 use Rattle.match_spec.proofs.build.fits_behind_star.Goals as goal

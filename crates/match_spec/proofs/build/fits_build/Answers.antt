@@ -1,4 +1,4 @@
-use Rattle.std.proofs.Common.{◌≡◌, sym, ◌∙◌, ap}
+use Rattle.std.proofs.Common.{sym, ◌∙◌, ap}
 use Rattle.match_spec.specs.StarBuild.{fits_build, some_end}
 use Rattle.match_spec.proofs.StarLemmas.{cut-none, cut-some, fits-piece, fits-plain, passed_by}
 use Rattle.match_spec.proofs.build.fits_build.Goals as goal

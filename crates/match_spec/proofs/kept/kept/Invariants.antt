@@ -1,4 +1,4 @@
-use Rattle.std.proofs.Common.{◌≡◌, ◌+◌, ◌++◌, drop, length}
+use Rattle.std.proofs.Common.{◌≡◌, ◌+◌, ◌++◌, length}
 use Rattle.std.specs.Prelude.{filter}
 use Rattle.match_spec.specs.Kept.{placed_from, stays}
 use Rattle.match_spec.specs.declared.kept.Placed.{Placed}

@@ -1,4 +1,4 @@
-use Rattle.std.proofs.Common.{◌≡◌, ◌+◌, ◌≤◌, length, reverse, drop, take}
+use Rattle.std.proofs.Common.{◌≡◌, ◌+◌, ◌≤◌, length, reverse}
 use Rattle.conda_version.specs.Leaf.{sign_len}
 use Rattle.match_spec.proofs.kept.last_signs.Given as goal
 

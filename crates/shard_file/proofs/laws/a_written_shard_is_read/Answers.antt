@@ -1,6 +1,6 @@
 use Rattle.std.proofs.Common.{ap}
 use Rattle.shard_file.specs.Writing.{shard_bytes}
-use Rattle.shard_file.proofs.WrittenLemmas.{read_again, same_rows}
+use Rattle.shard_file.proofs.WrittenLemmas.{read_again, same_rows, shortest_shard}
 use Rattle.shard_file.proofs.laws.a_written_shard_is_read.Goals as goal
 
 pub returns-clause-read : goal.returns-clause-read
@@ -11,3 +11,6 @@ returns-clause-equal c = λ rows others e. ap shard_bytes e
 
 pub returns-clause-apart : goal.returns-clause-apart
 returns-clause-apart c = same_rows
+
+pub returns-clause-shortest : goal.returns-clause-shortest
+returns-clause-shortest c = shortest_shard
