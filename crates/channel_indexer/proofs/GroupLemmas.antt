@@ -1,17 +1,17 @@
 -- A map from names to records, as groups.
-use Rattle.std.proofs.Common.{◌≡◌, ◌≢◌, ℕ, Bool, true, false, cond, List, [], ◌∷◌, map, Option, Some, None, IfSome, IsSome, suc, Vec, length, ◌<◌, ◌++◌, append_assoc, append-nil, arith, refl, sym, ap, subst, ◌∙◌}
+use Rattle.std.proofs.Common.{◌≡◌, ◌≢◌, ℕ, Bool, true, false, cond, List, [], ◌∷◌, map, Option, Some, None, IfSome, IsSome, suc, Vec, length, ◌++◌, append_assoc, append-nil, arith, refl, sym, ap, subst, ◌∙◌}
 use Rattle.std.specs.declared.alloc.Global.{Global}
 use Rattle.std.specs.declared.string.String.{String}
 use Rattle.std.specs.declared.cmp.Ordering.TheVariants.{Less}
 use Rattle.std.specs.String.{string_bytes, string_cmp, string_cmp_total}
 use Rattle.std.specs.Option.{option_map_or}
-use Rattle.std.specs.Ordering.{nat_cmp, is_eq, eq_by_cmp}
+use Rattle.std.specs.Ordering.{nat_cmp, is_eq}
 use Rattle.std.specs.Cmp.Lexicographic.{slice_cmp}
 use Rattle.std.specs.Str.{bytes_eq}
 use Rattle.std.specs.List.{All, AllByRecursion, filter}
 use Rattle.std.specs.List.Sorted.{IsStrictlySortedBy}
 use Rattle.std.specs.Map.{lookup, keys_of, values_of}
-use Rattle.std.specs.BTreeMap.{BTreeMap, get_by_text, is_at}
+use Rattle.std.specs.BTreeMap.{BTreeMap, get_by_text}
 use Rattle.std.proofs.lemmas.Slice.Eq.{bytes_eq-Decides}
 use Rattle.std.proofs.Math.ListN.{get_or-map}
 use Rattle.std.proofs.lemmas.List.{length-map}
@@ -63,9 +63,9 @@ pub entries-some : (m : BTreeMap (String Global) (Vec Row Global)) → IsStrictl
     → ((name : List ℕ) → IfSome (get_by_text m name) (λ g. g.items ≢ [])) → All (λ (g : Group). g.rows ≢ []) (map group_of m.entries)
 entries-some m ordered some =
     let values : All (λ (v : Vec Row Global). v.items ≢ []) (values_of m.entries) =
-        All-values_from_lookup (eq_by_cmp_equiv string_cmp_total) (λ (v : Vec Row Global). v.items ≢ []) m.entries (IsDistinct-from_sorted string_cmp (keys_of m.entries) ordered) (λ q. some (string_bytes q)) in
+    All-values_from_lookup (eq_by_cmp_equiv string_cmp_total) (λ (v : Vec Row Global). v.items ≢ []) m.entries (IsDistinct-from_sorted string_cmp (keys_of m.entries) ordered) (λ q. some (string_bytes q)) in
     All-map (λ (g : Group). g.rows ≢ []) group_of m.entries (λ k d h.
-      subst (λ (v : Vec Row Global). v.items ≢ []) (get_or-map second m.entries k d) (values k (second d) (rw length-map h)))
+    subst (λ (v : Vec Row Global). v.items ≢ []) (get_or-map second m.entries k d) (values k (second d) (rw length-map h)))
 
 -- a list that is taken apart from its front
 pub all-on : {X : Type 0} (front left rest : List X) (x : X) → left ≡ x ∷ rest → front ++ left ≡ (front ++ x ∷ []) ++ rest
@@ -97,5 +97,5 @@ pub entries-named : (m : BTreeMap (String Global) (Vec Row Global)) → ((name :
 entries-named m named =
     All-map IsName (λ (g : Group). g.name) (map group_of m.entries)
     (All-map (λ (g : Group). IsName g.name) group_of m.entries (λ k d h.
-      subst (λ (q : String Global). IsName (string_bytes q)) (get_or-map first m.entries k d)
-      (All-keys_from_lookup (eq_by_cmp_equiv string_cmp_total) (λ (q : String Global). IsName (string_bytes q)) m.entries (λ q found. named (string_bytes q) found) k (first d) (rw length-map h))))
+    subst (λ (q : String Global). IsName (string_bytes q)) (get_or-map first m.entries k d)
+    (All-keys_from_lookup (eq_by_cmp_equiv string_cmp_total) (λ (q : String Global). IsName (string_bytes q)) m.entries (λ q found. named (string_bytes q) found) k (first d) (rw length-map h))))

@@ -2,16 +2,16 @@
 use Rattle.std.proofs.Common.{◌≡◌, ℕ, ◌<◌, Bool, true, false, cond, List, length, Option, Some, None, IfSome, nat_lt, ◌≤◌, [], ◌∷◌, ◌++◌, take, subst, refl, sym, ap, ◌∙◌}
 use Rattle.std.proofs.lemmas.Bool.{ltb-true}
 use Rattle.std.specs.FinMap.{get}
-use Rattle.channel_store.specs.Store.{Files, Found, absent, whole, long, found_in, found_within}
+use Rattle.channel_store.specs.Store.{Files, absent, whole, long, found_in, found_within}
 use Rattle.shard_file.specs.Rows.{Row}
 use Rattle.channel_indexer.specs.declared.fault.IndexFault.{IndexFault}
 use Rattle.channel_indexer.specs.declared.fault.IndexFault.TheVariants as fault
 use Rattle.channel_indexer.specs.declared.fault.Large.TheVariants as large
 use Rattle.channel_indexer.specs.declared.plan.Plan.{Plan}
 use Rattle.channel_indexer.specs.declared.shards.Prepared.{Prepared}
-use Rattle.channel_indexer.specs.Input.{fault_of, rows_from}
+use Rattle.channel_indexer.specs.Input.{fault_of}
 use Rattle.channel_indexer.specs.Groups.{Group}
-use Rattle.channel_indexer.specs.Puts.{Put, with_puts, StopsWithin}
+use Rattle.channel_indexer.specs.Puts.{with_puts, StopsWithin}
 use Rattle.channel_indexer.specs.Prepared.{ArePrepared, AreTooLong, puts_of}
 use Rattle.channel_indexer.specs.Store.{stored_fault}
 use Rattle.channel_indexer.proofs.InputLemmas.{from-no-store}
@@ -103,6 +103,7 @@ place-stops (Some told) middle new place bytes made stands plan same stop =
       says = plan.says;
       fit = plan.plan.prepared.fit;
       index_fit = plan.plan.prepared.index_fit;
+      readings = plan.plan.prepared.readings;
     } in
     within plan.stood plan.groups indexable (record {
       done = stop.done;

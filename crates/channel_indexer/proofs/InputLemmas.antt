@@ -141,16 +141,16 @@ parts-no-store packages conda e = elim (bind-err (rows_of false packages) (λ ps
 
 in-no-store : (d : Data) → rows_in d ≡ Err fault.StoreFault → ⊥
 in-no-store d e =
-  elim (bind-err (or_fault fault.Json (as_object d)) (λ top. members_of (get packages_key d) >>= λ packages. members_of (get conda_key d) >>= λ conda. rows_of_parts packages conda) fault.StoreFault e) [
-    | inl first ↦ or-no-store (as_object d) first
-    | inr top ↦ elim (bind-err (members_of (get packages_key d)) (λ packages. members_of (get conda_key d) >>= λ conda. rows_of_parts packages conda) fault.StoreFault top.1.1) [
-      | inl second ↦ members-no-store (get packages_key d) second
-      | inr packages ↦ elim (bind-err (members_of (get conda_key d)) (λ conda. rows_of_parts packages.0 conda) fault.StoreFault packages.1.1) [
-        | inl third ↦ members-no-store (get conda_key d) third
-        | inr conda ↦ parts-no-store packages.0 conda.0 conda.1.1
+    elim (bind-err (or_fault fault.Json (as_object d)) (λ top. members_of (get packages_key d) >>= λ packages. members_of (get conda_key d) >>= λ conda. rows_of_parts packages conda) fault.StoreFault e) [
+      | inl first ↦ or-no-store (as_object d) first
+      | inr top ↦ elim (bind-err (members_of (get packages_key d)) (λ packages. members_of (get conda_key d) >>= λ conda. rows_of_parts packages conda) fault.StoreFault top.1.1) [
+        | inl second ↦ members-no-store (get packages_key d) second
+        | inr packages ↦ elim (bind-err (members_of (get conda_key d)) (λ conda. rows_of_parts packages.0 conda) fault.StoreFault packages.1.1) [
+          | inl third ↦ members-no-store (get conda_key d) third
+          | inr conda ↦ parts-no-store packages.0 conda.0 conda.1.1
+        ]
       ]
     ]
-  ]
 
 -- what bytes say has no fault of the store
 pub from-no-store : (bytes : List ℕ) → rows_from bytes ≡ Err fault.StoreFault → ⊥

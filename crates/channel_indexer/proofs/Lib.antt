@@ -3,3 +3,5 @@ pub mod InputLemmas
 pub mod GroupLemmas
 pub mod ShardLemmas
 pub mod IndexLemmas
+pub mod LawLemmas
+pub mod StandingLemmas

@@ -1,9 +1,7 @@
 -- Puts, one after another.
-use Rattle.std.proofs.Common.{◌≡◌, ℕ, zero, suc, nat_lt, map, count_by, ◌+◌, ◌<◌, Bool, true, false, cond, List, [], ◌∷◌, ◌++◌, length, get_or, take, Option, Some, None, IfSome, refl, sym, ap, ◌∙◌, inl, inr, ◌⊎◌, arith, add-one}
-use Rattle.std.specs.Option.{option_map}
-use Rattle.std.specs.Ordering.{nat_cmp, eq_by_cmp}
+use Rattle.std.proofs.Common.{◌≡◌, ℕ, zero, suc, nat_lt, map, count_by, ◌+◌, ◌<◌, Bool, true, false, cond, List, [], ◌∷◌, ◌++◌, length, get_or, take, Option, Some, None, IfSome, refl, sym, ap, ◌∙◌, inl, inr, arith}
 use Rattle.std.specs.Str.{bytes_eq}
-use Rattle.std.specs.Cmp.Lexicographic.{slice_cmp, nat_list_cmp_total}
+use Rattle.std.specs.Cmp.Lexicographic.{nat_list_cmp_total}
 use Rattle.std.specs.FinMap.{get, insert, get-insert, same_map, nat_cmp-IsAntisymmetric, slice_cmp-IsAntisymmetric}
 use Rattle.std.proofs.lemmas.Map.Text.{is_eq-slice_cmp}
 use Rattle.std.proofs.lemmas.Slice.Eq.{bytes_eq-Decides}
@@ -43,9 +41,9 @@ same_at files name bytes q there false e = refl
 pub put-there : (files : Files) (name bytes : List ℕ) → get files name ≡ Some bytes → insert files name bytes ≡ files
 put-there files name bytes there =
     same_map nat_list_cmp_total (slice_cmp-IsAntisymmetric nat_cmp-IsAntisymmetric) _ _ (λ q.
-      get-insert nat_list_cmp_total files name bytes q
-      ∙ ap (λ b. cond b (Some bytes) (get files q)) (is_eq-slice_cmp q name)
-      ∙ same_at files name bytes q there (bytes_eq q name) refl)
+    get-insert nat_list_cmp_total files name bytes q
+    ∙ ap (λ b. cond b (Some bytes) (get files q)) (is_eq-slice_cmp q name)
+    ∙ same_at files name bytes q there (bytes_eq q name) refl)
 
 -- a get that gives all bytes of a file finds that file
 whole-is : (limit : ℕ) (there : Option (List ℕ)) (got : List ℕ) → whole got ≡ found_within limit there → there ≡ Some got
@@ -82,7 +80,7 @@ pub stands-still : (ps : List Put) (i : ℕ) (p : Put) (told : Files) → i < le
     → stands_in (files_with (take i ps) told) p ≡ stands_in told p
 stands-still ps i p told within is apart =
     ap (λ o. is_these o p.bytes) (get-before ps i p.name told (λ j d low in_ps.
-      nat_list_eq_equiv.symm p.name (get_or ps j d).name ∙ other j d low in_ps))
+    nat_list_eq_equiv.symm p.name (get_or ps j d).name ∙ other j d low in_ps))
   where
     other : (j : ℕ) (d : Put) → j < i → j < length ps → bytes_eq (get_or ps j d).name p.name ≡ false
     other j d low in_ps =

@@ -1,5 +1,4 @@
 -- What a map from names to records is as groups.
-use Rattle.std.specs.Prelude.{List, ℕ}
 use Rattle.std.specs.declared.alloc.Global.{Global}
 use Rattle.std.specs.declared.string.String.{String}
 use Rattle.std.specs.declared.vec.Vec.{Vec}

@@ -1,9 +1,9 @@
 -- The rows of `repodata.json` in their order, by the names of their packages.
-use Rattle.std.specs.Prelude.{◌≡◌, ◌≢◌, ℕ, Bool, List, [], ◌∷◌, map, Ok, if◌then◌else◌}
+use Rattle.std.specs.Prelude.{◌≡◌, ◌≢◌, ℕ, Bool, List, [], ◌∷◌, map, if◌then◌else◌}
 use Rattle.std.specs.Ordering.{nat_cmp}
 use Rattle.std.specs.Cmp.Lexicographic.{slice_cmp}
 use Rattle.std.specs.List.{All, filter}
-use Rattle.std.specs.List.Sorted.{IsSortedBy, IsStableBy, IsStrictlySortedBy}
+use Rattle.std.specs.List.Sorted.{IsSortedBy, IsStableBy, IsStrictlySortedBy, IsPermutation}
 use Rattle.std.specs.Str.{bytes_eq}
 use Rattle.conda_name.specs.Name.{IsName, lower_case}
 use Rattle.shard_file.specs.Rows.{Row, file_lt}
@@ -34,6 +34,7 @@ rows_under name (g ∷ gs) = if bytes_eq name g.name then g.rows else rows_under
 pub record InOrder (stood rows : List Row) : Type 0 where
   pub ascending : IsSortedBy file_lt rows
   pub in_order : IsStableBy file_lt stood rows
+  pub same : IsPermutation stood rows
 
 -- the groups of some rows: one for each name that a row has, ascending by the names, with the rows of that name in their order
 pub record AreGroupsOf (rows : List Row) (groups : List Group) : Type 0 where

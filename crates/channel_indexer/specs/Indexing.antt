@@ -1,5 +1,5 @@
 -- What indexing a place does to a store that tells its files, and why it may not (docs/FORMATS.md, "Indexing").
-use Rattle.std.specs.Prelude.{◌≡◌, ◌⊎◌, ℕ, ◌+◌, ◌<◌, ◌≤◌, List, length, map, count_by, Option, Some, None, Result, Ok, Err, MatchResult, IfSome}
+use Rattle.std.specs.Prelude.{◌≡◌, ℕ, ◌+◌, ◌<◌, ◌≤◌, List, length, map, count_by, Option, Some, None, Result, Ok, Err, MatchResult, IfSome}
 use Rattle.std.specs.List.{All}
 use Rattle.std.specs.FinMap as finite
 use Rattle.channel_store.specs.Store.{Files}
@@ -12,9 +12,9 @@ use Rattle.channel_indexer.specs.declared.plan.Plan.{Plan}
 use Rattle.channel_indexer.specs.Input.{fault_of, rows_from}
 use Rattle.channel_indexer.specs.Store.{stored_fault}
 use Rattle.channel_indexer.specs.Groups.{Group, InOrder, AreGroupsOf}
-use Rattle.channel_indexer.specs.Puts.{Put, with_puts, StopsWithin, stands_in, AreApart}
+use Rattle.channel_indexer.specs.Puts.{with_puts, StopsWithin, stands_in, AreApart}
 use Rattle.channel_indexer.specs.Shards.{input_name, shard_put, listed_of, index_puts, IsFit, HasFitIndex}
-use Rattle.channel_indexer.specs.Prepared.{ArePrepared, AreTooLong}
+use Rattle.channel_indexer.specs.Prepared.{HaveReadings, ArePrepared, AreTooLong}
 
 -- the most bytes of `repodata.json`
 abbrev pub most_input : ℕ
@@ -48,6 +48,7 @@ pub record IsIndexable (place : List ℕ) (told : Files) (stood : List Row) (gro
   pub says : SaysGroups bytes stood groups
   pub fit : All IsFit groups
   pub index_fit : HasFitIndex place (map listed_of groups)
+  pub readings : HaveReadings place groups
 
 -- the shards of some groups that stand already, of so many
 abbrev pub count_standing : List ℕ → Files → List Group → ℕ

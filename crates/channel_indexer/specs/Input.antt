@@ -1,10 +1,9 @@
 -- What `repodata.json` says (docs/FORMATS.md, "repodata.json").
-use Rattle.std.specs.Prelude.{ℕ, Bool, true, false, List, [], ◌∷◌, ◌++◌, Option, Some, None, Result, Ok, Err, if◌then◌else◌, codes}
+use Rattle.std.specs.Prelude.{ℕ, Bool, true, false, List, [], ◌∷◌, ◌++◌, Option, Some, None, Result, Ok, Err, if◌then◌else◌}
 use Rattle.std.specs.Str.{is_utf8}
 use Rattle.serde_json.specs.Data.{Data, Members, no_members, member}
 use Rattle.serde_json.specs.Find.{get, as_object}
 use Rattle.serde_json.specs.Read as json
-use Rattle.serde_json.specs.View.{members_view}
 use Rattle.gateway_words.specs.Reading.{◌>>=◌}
 use Rattle.conda_name.specs.declared.name.NameRefusal.{NameRefusal}
 use Rattle.conda_name.specs.Name.{name_of}

@@ -7,3 +7,4 @@ pub mod Shards
 pub mod Prepared
 pub mod Indexing
 pub mod Store
+pub mod Standing

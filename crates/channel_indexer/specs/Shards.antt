@@ -1,9 +1,8 @@
 -- What indexing puts: the shards, ascending by the names of the packages, and then the index (CEP 16).
-use Rattle.std.specs.Prelude.{◌≡◌, ◌⊎◌, ℕ, ◌<◌, ◌≤◌, ◌^◌, List, [], ◌∷◌, ◌++◌, length, map, codes}
+use Rattle.std.specs.Prelude.{◌≡◌, ℕ, ◌<◌, ◌≤◌, ◌^◌, List, [], ◌∷◌, ◌++◌, length, map, codes}
 use Rattle.std.specs.List.{All}
 use Rattle.channel_store.specs.Names.{subdir_of}
 use Rattle.digest_gate.specs.Digest.{digest_of, text_of}
-use Rattle.shard_file.specs.Rows.{Row}
 use Rattle.shard_file.specs.Writing.{shard_bytes, AreWritable}
 use Rattle.shard_index.specs.Index.{Listed}
 use Rattle.shard_index.specs.Writing.{index_bytes}

@@ -58,10 +58,7 @@ fn records_in(alloc: Global, value: &Value) -> Result<Vec<FileRecord>, IndexFaul
 }
 
 // The files behind a key, if the key is there.
-fn part<'a>(
-    value: &'a Value,
-    key: &str,
-) -> Result<Option<&'a Map<String, Value>>, IndexFault>
+fn part<'a>(value: &'a Value, key: &str) -> Result<Option<&'a Map<String, Value>>, IndexFault>
     ensures { Gives members_lent fault_of result (members_of (get key.now (view value.now))) }
 {
     let Some(part) = value.get(key) else {
@@ -104,12 +101,7 @@ fn records_of_files(
 }
 
 // The record of one file.
-fn record(
-    alloc: Global,
-    file: &str,
-    conda: bool,
-    value: &Value,
-) -> Result<FileRecord, IndexFault>
+fn record(alloc: Global, file: &str, conda: bool, value: &Value) -> Result<FileRecord, IndexFault>
     ensures { Gives (λ row. row) fault_of result (row_of conda file.now (view value.now)) }
 {
     match PackageRecord::from_json(alloc, value) {

@@ -11,9 +11,14 @@ mod fault;
 mod groups;
 mod index;
 mod input;
+mod laws;
 mod plan;
 mod putting;
 mod shards;
 
 pub use fault::{IndexFault, Large};
 pub use index::{Summary, index_subdir};
+pub use laws::{a_stop_keeps_the_place, groups_have_the_rows};
+
+#[cfg(test)]
+mod tests;

@@ -28,11 +28,7 @@ impl Model for Put {
 }
 
 // Puts a file, unless it stands with these bytes already, and says whether it stood.
-fn put_unless_there<S: Store>(
-    alloc: Global,
-    store: &mut S,
-    put: &Put,
-) -> Result<bool, StoreRefusal>
+fn put_unless_there<S: Store>(alloc: Global, store: &mut S, put: &Put) -> Result<bool, StoreRefusal>
     ensures ok { OnOk result (S.files store.new
         ≡ with_file put.now.name put.now.bytes (S.files store.old)) }
     ensures there { IfOk result (λ there. IfSome (S.files store.old)

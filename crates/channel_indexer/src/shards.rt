@@ -69,12 +69,7 @@ pub(crate) fn prepare(
 }
 
 // The shard of one name.
-fn shard(
-    alloc: Global,
-    place: &str,
-    name: &str,
-    records: &[FileRecord],
-) -> Result<Made, IndexFault>
+fn shard(alloc: Global, place: &str, name: &str, records: &[FileRecord]) -> Result<Made, IndexFault>
     requires { IsName name.now }
     ensures { MakesShard place.now (record { name = name.now; rows = records.now }) result }
 {

@@ -1,5 +1,5 @@
 -- The files of a store in memory, name by name.
-use Rattle.std.proofs.Common.{◌≡◌, ℕ, Bool, true, false, not, cond, List, [], ◌∷◌, ◌++◌, map, Option, Some, None, Vec, ◌+◌, ◌<◌, length, get_or, drop, drop-cons, add-one, suc, refl, sym, ap, ◌∙◌, rules}
+use Rattle.std.proofs.Common.{◌≡◌, ℕ, Bool, true, false, not, cond, List, [], ◌∷◌, ◌++◌, map, Option, Some, None, Vec, ◌+◌, ◌<◌, length, get_or, drop, drop-cons, add-one, suc, refl, sym, ap, ◌∙◌}
 use Rattle.std.specs.declared.alloc.Global.{Global}
 use Rattle.std.specs.declared.string.String.{String}
 use Rattle.std.specs.Option.{option_map}
@@ -14,7 +14,6 @@ use Rattle.std.specs.FinMap.{find, get, insert, remove, get-from_entries, get-in
 use Rattle.std.specs.FinMap.Entries.{where_key, find-where_key}
 use Rattle.std.specs.declared.cmp.Ordering.TheVariants.{Equal}
 use Rattle.std.proofs.lemmas.Map.Text.{is_eq-slice_cmp}
-use Rattle.std.proofs.lemmas.Slice.Eq.{bytes_eq-Decides}
 use Rattle.channel_store.specs.Store.{Files}
 use Rattle.channel_store.specs.Memory.{first_file, later_file, files_of}
 

@@ -1,12 +1,11 @@
 -- What was found of a record, as its fields.
 use Rattle.std.proofs.Common.{◌≡◌, refl, sym, ◌∙◌, ap, ℕ, Bool, true, cond, ◌&&◌, List, []}
-use Rattle.std.specs.Prelude.{Result, Ok, Err, Option, Some, None, unwrap_or, is_some}
+use Rattle.std.specs.Prelude.{Ok, Err, Option, Some, None, unwrap_or, is_some}
 use Rattle.std.specs.Option.{option_flatten}
 use Rattle.std.specs.declared.alloc.Global.{Global}
 use Rattle.std.specs.declared.vec.Vec.{Vec}
 use Rattle.gateway_words.specs.Places.{Position}
 use Rattle.gateway_words.specs.Reading.{◌>>=◌}
-use Rattle.mp_codec.specs.declared.fault.FormatFault.{FormatFault}
 use Rattle.mp_codec.specs.declared.fault.FaultKind.TheVariants as kind
 use Rattle.mp_codec.specs.Fault.{fault_here}
 use Rattle.mp_codec.specs.Maps.{Read, known_end_from}

@@ -1,27 +1,25 @@
 -- A record is read right: what is read is what stands there, and a fault is the first one.
-use Rattle.std.proofs.Common.{◌≡◌, refl, sym, ◌∙◌, ap, subst, ℕ, zero, suc, ◌+◌, ◌<◌, ◌≤◌, ◌⊎◌, inl, inr, Bool, true, false, cond, ◌||◌, List, [], ◌∷◌, ◌++◌, length, arith, codes}
-use Rattle.std.specs.Prelude.{Result, Ok, Err, Option, Some, None, unwrap_or, slice_index_or, IfSome}
+use Rattle.std.proofs.Common.{◌≡◌, refl, sym, ◌∙◌, ap, subst, ℕ, zero, suc, ◌<◌, ◌≤◌, inl, inr, Bool, true, false, cond, ◌||◌, List, [], arith, codes}
+use Rattle.std.specs.Prelude.{Ok, Err, Option, Some, None, unwrap_or, slice_index_or}
 use Rattle.std.specs.List.{list_any}
-use Rattle.gateway_words.specs.Places.{Position, IsFirst}
-use Rattle.gateway_words.specs.Reading.{◌>>=◌}
+use Rattle.gateway_words.specs.Places.{Position}
 use Rattle.mp_codec.specs.declared.fault.FormatFault.{FormatFault}
 use Rattle.mp_codec.specs.Value.{Value, Pairs, pairs_of, str_of, number_of}
-use Rattle.mp_codec.specs.Spelling.{Lies}
 use Rattle.mp_codec.specs.Fault.{Faults, no_fault, MapFault, MapRules, TextFault, IsFirstFault, WithBreaks}
-use Rattle.mp_codec.specs.Keys.{has_bytes, is_key, is_one_of, value_at}
-use Rattle.mp_codec.specs.Maps.{Read, place_of, is_distinct, text_from, number_from, unread, known_key_from, known_value_from, known_end_from, known_map_from, entries_from, map_from}
-use Rattle.mp_codec.proofs.JudgingLemmas.{StandBehind, JudgesOne, Reads, Refuses, lies_whole}
+use Rattle.mp_codec.specs.Keys.{has_bytes, value_at}
+use Rattle.mp_codec.specs.Maps.{Read, place_of, is_distinct, text_from, known_map_from}
+use Rattle.mp_codec.proofs.JudgingLemmas.{StandBehind, JudgesOne, Reads, lies_whole}
 use Rattle.mp_codec.proofs.LeafLemmas.{HasNumber, number_judged, IsText, text_judged, text_behind}
 use Rattle.mp_codec.proofs.MapLemmas.{mapped, same_faults, map_behind}
-use Rattle.mp_codec.proofs.KeyLemmas.{KnowsFrom, datum_at, Knows, OfKey, table_rules, table_pairs_behind, table_judged}
+use Rattle.mp_codec.proofs.KeyLemmas.{KnowsFrom, datum_at, table_rules, table_pairs_behind, table_judged}
 use Rattle.mp_codec.proofs.MappedLemmas.{turned, known_map_turned, data_of, knows_is}
-use Rattle.mp_codec.proofs.RuleLemmas.{Within, RulesWithin, map_within}
+use Rattle.mp_codec.proofs.RuleLemmas.{RulesWithin, map_within}
 use Rattle.mp_codec.proofs.ReaderLemmas.{refuses_first, judged_reads, judged_refuses}
 use Rattle.mp_codec.proofs.UniqueLemmas.{SameLie, lies_same}
 use Rattle.conda_record.specs.Texts.{text_of, texts_of, texts_from}
 use Rattle.conda_record.specs.Digests.{digest_of, digest_from}
-use Rattle.conda_record.specs.Record.{Fields, required_keys, optional_keys, record_keys, said, said_at, fields_in, fields_of, record_rules, RecordFault, RecordAt}
-use Rattle.conda_record.specs.Reading.{Kind, text, number, optional_text, texts, digest, Datum, Text, Number, OptionalText, Texts, Digest, kinds, required, optional_text_from, datum_by, datum_from, text_or_none, number_in, optional_text_in, texts_in, digest_in, fields_from, end_from, pairs_from, record_from}
+use Rattle.conda_record.specs.Record.{Fields, required_keys, optional_keys, record_keys, said, fields_in, fields_of, record_rules, RecordFault, RecordAt}
+use Rattle.conda_record.specs.Reading.{Kind, text, number, optional_text, texts, digest, Datum, Text, Number, OptionalText, Texts, Digest, kinds, required, optional_text_from, datum_by, datum_from, text_or_none, number_in, optional_text_in, texts_in, digest_in, fields_from, end_from, record_from}
 use Rattle.conda_record.proofs.ValueLemmas.{HasText, optional_text_judged, HasDigest, digest_judged, HasTexts, texts_judged}
 
 -- ---- the values of the known keys

@@ -1,6 +1,6 @@
 -- Refusals: a fault or want of memory.
-use Rattle.std.proofs.Common.{◌≡◌, refl, sym, ◌∙◌, ap}
-use Rattle.std.specs.Prelude.{Result, Ok, Err, Option, Some, None, IfSome}
+use Rattle.std.proofs.Common.{◌≡◌, refl, sym, ◌∙◌}
+use Rattle.std.specs.Prelude.{Result, Ok, Err, IfSome}
 use Rattle.mp_codec.specs.declared.fault.FormatFault.{FormatFault}
 use Rattle.conda_record.specs.declared.refusal.RecordRefusal.{RecordRefusal}
 use Rattle.conda_record.specs.declared.refusal.RecordRefusal.TheVariants as refusal

@@ -1,31 +1,29 @@
 -- Readers of a record's values by their kinds are right.
-use Rattle.std.proofs.Common.{◌≡◌, refl, sym, ◌∙◌, ap, subst, ℕ, zero, suc, ◌+◌, ◌<◌, ◌≤◌, Bool, true, false, cond, List, [], ◌∷◌, ◌++◌, length, arith, length-append, append_assoc, inl, inr}
+use Rattle.std.proofs.Common.{◌≡◌, refl, sym, ◌∙◌, ap, subst, ℕ, zero, suc, ◌+◌, Bool, true, false, cond, List, [], ◌∷◌, ◌++◌, length, arith, length-append, append_assoc, inl, inr}
 use Rattle.std.specs.Prelude.{Result, Ok, Err, Option, Some, None}
-use Rattle.std.specs.Result.{result_ok}
 use Rattle.std.specs.Str.{is_utf8}
-use Rattle.hex.specs.Hex.{decode_sized}
 use Rattle.gateway_words.specs.Places.{Position, Between}
 use Rattle.gateway_words.specs.Reading.{◌>>=◌}
 use Rattle.mp_codec.specs.declared.fault.FormatFault.{FormatFault}
 use Rattle.mp_codec.specs.declared.head.Head.{Head}
 use Rattle.mp_codec.specs.declared.head.Head.TheVariants as head
 use Rattle.mp_codec.specs.Format.{payload_len, part_count}
-use Rattle.mp_codec.specs.Value.{Value, value, Values, none, more, count, array_len, str_of, pairs_of}
-use Rattle.mp_codec.specs.Spelling.{SpellsAll, Lies, Breaks}
+use Rattle.mp_codec.specs.Value.{Value, value, Values, none, more, count, array_len, str_of}
+use Rattle.mp_codec.specs.Spelling.{SpellsAll, Lies}
 use Rattle.mp_codec.specs.Reading.{head_from, bytes_from}
-use Rattle.mp_codec.specs.Fault.{no_fault, TextFault, no_str, not_text}
+use Rattle.mp_codec.specs.Fault.{no_fault, TextFault}
 use Rattle.mp_codec.specs.Maps.{Read, skipped, text_from, str_from}
 use Rattle.mp_codec.proofs.BindLemmas.{BoundOk, bound_ok, bind_ok}
 use Rattle.mp_codec.proofs.HeadLemmas.{ok_first, ok_second}
 use Rattle.mp_codec.proofs.PlaceLemmas.{position, between_join, head_breaks, TakesBytes, bytes_taken}
 use Rattle.mp_codec.proofs.PassingLemmas.{LieAll, node_lies}
 use Rattle.mp_codec.proofs.UniqueLemmas.{SameLie, lies_same}
-use Rattle.mp_codec.proofs.JudgingLemmas.{JudgesOne, Reads, Refuses, Parts, parts, lies_whole}
+use Rattle.mp_codec.proofs.JudgingLemmas.{JudgesOne, Reads, parts, lies_whole}
 use Rattle.mp_codec.proofs.LeafLemmas.{head_of, head_is, refuses_break, skipped_judged, leaf_lies, payload_breaks, HasStr, str_judged, IsText, text_judged, text_clean}
 use Rattle.mp_codec.proofs.MapLemmas.{mapped, head_begins, parts_lie, no_place}
 use Rattle.mp_codec.proofs.ReaderLemmas.{judged_reads}
 use Rattle.conda_record.specs.Texts.{text_in, text_of, texts_in, texts_if, texts_of, texts_at, tried, texts_or_skipped, texts_from, both}
-use Rattle.conda_record.specs.Digests.{digest_in, digest_of, digest_at, digest_by, digest_from}
+use Rattle.conda_record.specs.Digests.{digest_in, digest_of, digest_by, digest_from}
 use Rattle.conda_record.specs.Reading.{optional_text_from}
 
 -- ---- a text, or none

@@ -1,21 +1,18 @@
 -- A record that is written is read again as its fields.
-use Rattle.std.proofs.Common.{◌≡◌, refl, sym, ◌∙◌, ap, subst, ℕ, zero, suc, ◌+◌, ◌<◌, ◌≤◌, ◌^◌, Bool, true, false, cond, eqb, List, [], ◌∷◌, ◌++◌, length, arith, append_assoc, append-nil, get_or}
-use Rattle.std.specs.Prelude.{Result, Ok, Err, Option, Some, None, IfSome, codes, drop}
+use Rattle.std.proofs.Common.{◌≡◌, refl, sym, ◌∙◌, ap, subst, ℕ, suc, ◌<◌, ◌≤◌, ◌^◌, Bool, true, cond, List, [], ◌∷◌, ◌++◌, length, arith, append_assoc, append-nil, get_or}
+use Rattle.std.specs.Prelude.{Ok, Option, Some, None, IfSome, codes, drop}
 use Rattle.std.specs.Option.{option_map}
-use Rattle.std.specs.List.{flat_map, All, AllByRecursion, list_all}
-use Rattle.std.specs.Str.{is_utf8}
+use Rattle.std.specs.List.{flat_map, All, AllByRecursion}
 use Rattle.std.specs.Bool.{◌==◌}
 use Rattle.gateway_words.specs.Places.{Position, Between, start_of}
 use Rattle.gateway_words.specs.Reading.{◌>>=◌}
-use Rattle.mp_codec.specs.declared.fault.FormatFault.{FormatFault}
 use Rattle.mp_codec.specs.declared.head.Head.TheVariants as head
 use Rattle.mp_codec.specs.Value.{array_len}
 use Rattle.mp_codec.specs.Reading.{head_from, bytes_from}
 use Rattle.mp_codec.specs.Maps.{Read, str_from, text_from, number_from, known_map_from}
-use Rattle.mp_codec.specs.Writing.{uint_bytes, str_bytes, bin_head, bin_bytes, array_head, map_head, pair_bytes, pairs_bytes, known_map_bytes, value_count}
+use Rattle.mp_codec.specs.Writing.{uint_bytes, str_bytes, bin_head, bin_bytes, array_head, map_head, pair_bytes, value_count}
 use Rattle.mp_codec.proofs.BindLemmas.{bind_ok}
 use Rattle.mp_codec.proofs.HeadLemmas.{ok_first}
-use Rattle.mp_codec.proofs.MappedLemmas.{turned}
 use Rattle.mp_codec.proofs.WrittenLemmas.{Halves, halves, nothing_between, ReadAs, read_turned, head_read, array_head_stands, bin_head_stands, bytes_read, str_read_back, text_read_back, number_read_back, Written, known_map_written}
 use Rattle.mp_codec.specs.Value.{Value}
 use Rattle.mp_codec.specs.Spelling.{Spells}
@@ -23,7 +20,7 @@ use Rattle.mp_codec.specs.Writing.{IsShortest}
 use Rattle.mp_codec.proofs.ShortestLemmas.{IsTight, tight_uint, tight_str, tight_bin, tight_array, tight_each, tight_known_map, pointwise, names_short, shortest}
 use Rattle.conda_record.specs.Texts.{text_in, texts_at, tried, texts_or_skipped, texts_from}
 use Rattle.conda_record.specs.Digests.{digest_in, digest_by, digest_from}
-use Rattle.conda_record.specs.Record.{Fields, record_keys, RecordAt}
+use Rattle.conda_record.specs.Record.{Fields, record_keys}
 use Rattle.conda_record.specs.Reading.{Datum, Text, Number, OptionalText, Texts, Digest, required, optional_text_from, datum_from, number_in, optional_text_in, texts_in, digest_in as digest_data, fields_from, record_from}
 use Rattle.conda_record.specs.Writing.{texts_bytes, texts_if_any, values_of, record_bytes, IsShort, AreShort, IsWritable, AreText, AreFields, IsReadAgain, text_pair, number_pair, texts_pair, first_pairs, middle_pairs, last_pairs, key_count}
 use Rattle.conda_record.proofs.RecordLemmas.{differ, record_is, record_found}

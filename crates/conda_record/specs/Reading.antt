@@ -1,5 +1,5 @@
 -- Reading a record from a position: its known keys in the order of `record_keys`, and how the value of each is read.
-use Rattle.std.specs.Prelude.{◌≡◌, ℕ, List, [], ◌∷◌, Option, Some, None, unwrap_or, Result, Ok, Err, slice_index_or}
+use Rattle.std.specs.Prelude.{ℕ, List, [], ◌∷◌, Option, Some, None, unwrap_or, Ok, slice_index_or}
 use Rattle.std.specs.declared.alloc.Global.{Global}
 use Rattle.std.specs.declared.vec.Vec.{Vec}
 use Rattle.gateway_words.specs.Places.{Position}

@@ -1,5 +1,5 @@
 -- What a package record says, and what may be wrong with one (CEP 16, "package records").
-use Rattle.std.specs.Prelude.{◌≡◌, ℕ, Bool, true, List, [], ◌∷◌, ◌++◌, Option, Some, None, unwrap_or, codes}
+use Rattle.std.specs.Prelude.{◌≡◌, ℕ, true, List, [], ◌∷◌, ◌++◌, Option, Some, None, unwrap_or, codes}
 use Rattle.gateway_words.specs.Places.{Position}
 use Rattle.mp_codec.specs.declared.fault.FormatFault.{FormatFault}
 use Rattle.mp_codec.specs.Value.{Value, Pairs, pairs_of, number_of, str_of}

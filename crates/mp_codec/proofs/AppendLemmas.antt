@@ -1,7 +1,7 @@
 -- Writers one behind the other: a loop over elements, and calls in a row.
 use Rattle.std.proofs.Common.{◌≡◌, subst, ◌⊎◌, inl, inr, sym, ◌∙◌, ap, ℕ, ◌+◌, ◌<◌, ◌≤◌, List, [], ◌∷◌, ◌++◌, length, take, drop, arith, append_assoc, append-nil, get_or}
 use Rattle.std.specs.Prelude.{Result, Ok, Err, OnOk, OnErr}
-use Rattle.std.specs.List.{flat_map, All}
+use Rattle.std.specs.List.{flat_map}
 use Rattle.std.proofs.lemmas.Grind.{flat_map-append}
 use Rattle.std.proofs.lemmas.List.{take_more, get_or_default, take-append-drop}
 use Rattle.std.proofs.Math.Seq.{take-append_seam}

@@ -1,14 +1,12 @@
 -- Bytes each of whose heads is the shortest are the shortest spelling of their value.
-use Rattle.std.proofs.Common.{◌≡◌, refl, sym, ◌∙◌, ap, subst, ℕ, zero, suc, pos, ◌+◌, ◌*◌, ◌<◌, ◌≤◌, ◌^◌, Bool, true, false, ◌&&◌, List, [], ◌∷◌, ◌++◌, length, arith, length-append, append-nil, append_assoc, get_or}
+use Rattle.std.proofs.Common.{◌≡◌, refl, sym, ◌∙◌, ap, subst, ℕ, zero, suc, ◌+◌, ◌*◌, ◌<◌, ◌≤◌, ◌^◌, true, List, [], ◌∷◌, ◌++◌, length, arith, length-append, append-nil, append_assoc, get_or}
 use Rattle.std.specs.Prelude.{nat_lt, Option, Some, None, IfSome}
 use Rattle.std.specs.List.{list_all, All, AllByRecursion, flat_map}
 use Rattle.std.proofs.lemmas.List.Folds.{list_all-append}
-use Rattle.mp_codec.specs.declared.head.Head.{Head}
 use Rattle.mp_codec.specs.declared.head.Head.TheVariants as head
-use Rattle.mp_codec.specs.Format.{part_count}
 use Rattle.mp_codec.specs.Value.{Value, value, Values, none, more, count}
 use Rattle.mp_codec.specs.Spelling.{IsNode, Spells, SpellsAll}
-use Rattle.mp_codec.specs.Writing.{are_bytes, uint_bytes, str_head, bin_head, array_head, map_head, str_bytes, bin_bytes, pair_bytes, pairs_bytes, value_count, known_map_bytes, uint_value, str_value, bin_value, IsShortest, IsShortestHead}
+use Rattle.mp_codec.specs.Writing.{are_bytes, uint_bytes, str_head, bin_head, array_head, map_head, str_bytes, bin_bytes, pairs_bytes, value_count, known_map_bytes, uint_value, str_value, bin_value, IsShortest, IsShortestHead}
 use Rattle.std.proofs.lemmas.Bool.{ltb-true}
 use Rattle.std.proofs.lemmas.List.Sums.{AllPass-from_list_all}
 use Rattle.mp_codec.proofs.UniqueLemmas.{one_value}

@@ -1,14 +1,12 @@
 -- What is written is a spelling, and no spelling of the same value is shorter.
-use Rattle.std.proofs.Common.{◌≡◌, refl, sym, ◌∙◌, ap, subst, ℕ, ℤ, pos, negsuc, zero, suc, ◌+◌, ◌-◌, ◌*◌, ◌^◌, ◌<◌, ◌≤◌, ◌⊎◌, inl, inr, Bool, true, false, cond, ltb, List, [], ◌∷◌, ◌++◌, length, take, arith, length-append}
-use Rattle.std.specs.Prelude.{◌&&◌, ◌||◌, ◌==◌, nat_lt, Result, Ok, Err, slice_index_or, if◌then◌else◌}
-use Rattle.std.specs.Int.{w16, w32, w64, to_be_bytes, from_be_bytes}
+use Rattle.std.proofs.Common.{◌≡◌, refl, sym, ◌∙◌, ap, subst, ℕ, pos, negsuc, zero, suc, ◌+◌, ◌-◌, ◌*◌, ◌^◌, ◌<◌, ◌≤◌, Bool, true, false, List, [], ◌∷◌, ◌++◌, length, take, arith, length-append}
+use Rattle.std.specs.Prelude.{◌||◌, ◌==◌, nat_lt, Ok, slice_index_or}
+use Rattle.std.specs.Int.{w16, w32, w64, to_be_bytes}
 use Rattle.std.specs.List.{list_all}
-use Rattle.std.proofs.lemmas.Bool.{ltb-true, ltb-false}
 use Rattle.std.proofs.lemmas.List.{take_all, append-nil}
 use Rattle.std.proofs.lemmas.List.Folds.{list_all-append}
 use Rattle.std.proofs.Math.Nat.{mul-le-mul_right}
 use Rattle.std.proofs.lemmas.Nat.{from_be_bytes-to_be_bytes_2, from_be_bytes-to_be_bytes_4, from_be_bytes-to_be_bytes_8}
-use Rattle.mp_codec.specs.declared.fault.FaultKind.{FaultKind}
 use Rattle.mp_codec.specs.declared.head.Head.{Head}
 use Rattle.mp_codec.specs.declared.head.Head.TheVariants as head
 use Rattle.mp_codec.specs.declared.head.Form.{Form}
@@ -17,9 +15,8 @@ use Rattle.mp_codec.specs.declared.head.Behind.{Behind}
 use Rattle.mp_codec.specs.declared.head.Behind.TheVariants as behind
 use Rattle.mp_codec.specs.Format.{big_endian, form, middle_forms, signed, head_behind, head_of_form, head_at, part_count}
 use Rattle.mp_codec.proofs.HeadLemmas.{ok_first, ok_second, Follows, follows}
-use Rattle.gateway_words.specs.Places.{Position, Between}
-use Rattle.mp_codec.specs.Value.{Value, value, Values, none}
-use Rattle.mp_codec.specs.Spelling.{IsNode, Spells, Lies}
+use Rattle.mp_codec.specs.Value.{Value, value, none}
+use Rattle.mp_codec.specs.Spelling.{Spells}
 use Rattle.mp_codec.specs.Writing.{are_bytes, uint_bytes, str_head, bin_head, array_head, map_head, str_bytes, bin_bytes, uint_value, str_value, bin_value, StandsAs, IsShortest, IsShortestHead}
 
 -- ---- numbers as bytes

@@ -1,6 +1,6 @@
 -- What the writers append is read again as what it was written for, whatever follows it.
-use Rattle.std.proofs.Common.{◌≡◌, refl, sym, ◌∙◌, ap, subst, ℕ, zero, suc, pos, ◌+◌, ◌<◌, ◌^◌, Bool, true, false, not, cond, ltb, ◌&&◌, ◌||◌, List, [], ◌∷◌, ◌++◌, length, take, arith, length-append, append_assoc, append-nil}
-use Rattle.std.specs.Prelude.{nat_lt, Result, Ok, Err, Option, Some, None, is_some, slice_index_or, slice_set}
+use Rattle.std.proofs.Common.{◌≡◌, refl, sym, ◌∙◌, ap, subst, ℕ, suc, pos, ◌+◌, ◌<◌, ◌^◌, Bool, true, false, not, cond, ltb, ◌&&◌, ◌||◌, List, [], ◌∷◌, ◌++◌, length, take, arith, length-append, append_assoc, append-nil}
+use Rattle.std.specs.Prelude.{nat_lt, Ok, Err, Option, Some, None, is_some, slice_index_or, slice_set}
 use Rattle.std.specs.Str.{bytes_eq, is_utf8}
 use Rattle.std.specs.List.{list_any, list_all}
 use Rattle.std.proofs.lemmas.Bool.{ltb-true, ltb-false}
@@ -8,19 +8,17 @@ use Rattle.std.proofs.lemmas.Slice.Eq.{bytes_eq-Decides}
 use Rattle.std.proofs.Math.Seq.{get_or-append_seam, set-append_seam}
 use Rattle.gateway_words.specs.Places.{Position, Between, start_of}
 use Rattle.gateway_words.specs.Reading.{◌>>=◌}
-use Rattle.mp_codec.specs.declared.fault.FormatFault.{FormatFault}
 use Rattle.mp_codec.specs.declared.fault.FaultKind.TheVariants as kind
 use Rattle.mp_codec.specs.declared.head.Head.{Head}
 use Rattle.mp_codec.specs.declared.head.Head.TheVariants as head
 use Rattle.mp_codec.specs.Fault.{fault_here}
-use Rattle.mp_codec.specs.Value.{Value, value, none, str_len, map_len, array_len, whole}
-use Rattle.mp_codec.specs.Keys.{has_bytes}
+use Rattle.mp_codec.specs.Value.{Value, value, none, str_len, map_len, whole}
 use Rattle.mp_codec.specs.Reading.{head_from, bytes_from, values_from}
-use Rattle.mp_codec.specs.Spelling.{HeadLies, Spells}
+use Rattle.mp_codec.specs.Spelling.{Spells}
 use Rattle.mp_codec.specs.Maps.{Read, skipped, ended, all_from, entries_from, pairs_or_wrong, map_head_from, map_from, text_or_wrong, text_from, bytes_or_skipped, str_from, number_or_skipped, number_from, place_of, is_distinct, unread, known_key_from, known_value_from, known_end_from, known_map_from}
-use Rattle.mp_codec.specs.Writing.{uint_bytes, str_head, bin_head, array_head, map_head, str_bytes, bin_bytes, pair_bytes, pairs_bytes, value_count, known_map_bytes, HeadStandsAs}
+use Rattle.mp_codec.specs.Writing.{uint_bytes, str_head, bin_head, array_head, map_head, str_bytes, pairs_bytes, value_count, known_map_bytes, HeadStandsAs}
 use Rattle.mp_codec.proofs.BindLemmas.{bind_ok}
-use Rattle.mp_codec.proofs.PlaceLemmas.{position, between_here, between_there, between_join, bytes_then, lies_head}
+use Rattle.mp_codec.proofs.PlaceLemmas.{position, between_here, between_there, bytes_then, lies_head}
 use Rattle.mp_codec.proofs.PassingLemmas.{lies_value}
 use Rattle.mp_codec.proofs.WritingLemmas.{uint_spelled, str_head_spelled, bin_head_spelled, array_head_spelled, map_head_spelled}
 

@@ -1,21 +1,19 @@
 -- A map of files is read right.
-use Rattle.std.proofs.Common.{◌≡◌, refl, sym, ◌∙◌, ap, subst, ℕ, zero, suc, ◌+◌, ◌<◌, ◌≤◌, ◌⊎◌, inl, inr, Bool, true, false, cond, ◌||◌, List, [], ◌∷◌, ◌++◌, map, arith}
-use Rattle.std.specs.Prelude.{Result, Ok, Err, Option, Some, None, unwrap_or, is_some}
-use Rattle.std.specs.List.{list_any}
+use Rattle.std.proofs.Common.{◌≡◌, refl, sym, ◌∙◌, ap, ℕ, ◌⊎◌, inl, inr, Bool, true, false, cond, ◌||◌, List, [], ◌∷◌, ◌++◌, map, arith}
+use Rattle.std.specs.Prelude.{Option, Some, unwrap_or, is_some}
 use Rattle.std.specs.Str.{bytes_eq, is_utf8}
 use Rattle.gateway_words.specs.Places.{Position}
-use Rattle.gateway_words.specs.Reading.{◌>>=◌}
 use Rattle.mp_codec.specs.declared.fault.FormatFault.{FormatFault}
 use Rattle.mp_codec.specs.declared.fault.FaultKind.TheVariants as kind
 use Rattle.mp_codec.specs.Value.{Value, Pairs, pairs_of, str_of}
 use Rattle.mp_codec.specs.Spelling.{Lies}
-use Rattle.mp_codec.specs.Fault.{Faults, no_fault, fault_here, TextFault, MapFault, PairsFault}
+use Rattle.mp_codec.specs.Fault.{Faults, no_fault, fault_here, TextFault, PairsFault}
 use Rattle.mp_codec.specs.Keys.{has_bytes, is_key, value_at, has_key}
-use Rattle.mp_codec.specs.Maps.{Read, text_from, map_from}
+use Rattle.mp_codec.specs.Maps.{text_from}
 use Rattle.mp_codec.proofs.JudgingLemmas.{StandBehind, JudgesOne}
 use Rattle.mp_codec.proofs.LeafLemmas.{IsText, text_judged, text_behind, text_clean}
-use Rattle.mp_codec.proofs.MapLemmas.{mapped, FoundBad, guarded, ReadsEnd, JudgesEnd, pairs_behind, entries_judged, map_judged, map_behind}
-use Rattle.conda_record.specs.Record.{Fields, fields_of, RecordFault}
+use Rattle.mp_codec.proofs.MapLemmas.{mapped, guarded, JudgesEnd, pairs_behind, entries_judged, map_judged, map_behind}
+use Rattle.conda_record.specs.Record.{Fields, RecordFault}
 use Rattle.conda_record.specs.Reading.{record_from}
 use Rattle.conda_record.proofs.RecordLemmas.{IsRecord, record_judged, record_behind}
 use Rattle.shard_file.specs.Rows.{Row, row_of, RepeatedFile, again, files_rules, FilesFault}

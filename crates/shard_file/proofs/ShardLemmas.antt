@@ -1,16 +1,14 @@
 -- A shard is read right: its rows are those that the bytes spell, and a fault is the first one.
-use Rattle.std.proofs.Common.{◌≡◌, refl, sym, ◌∙◌, ap, subst, ℕ, zero, suc, ◌+◌, ◌<◌, ◌≤◌, ◌⊎◌, inl, inr, Bool, true, false, cond, ◌||◌, List, [], ◌∷◌, ◌++◌, map, arith, codes}
-use Rattle.std.specs.Prelude.{Result, Ok, Err, Option, Some, None, slice_index_or, IfSome}
+use Rattle.std.proofs.Common.{◌≡◌, refl, sym, ◌∙◌, ap, subst, ℕ, zero, suc, ◌<◌, ◌≤◌, Bool, true, false, cond, ◌||◌, List, [], ◌∷◌, ◌++◌, map, arith, codes}
+use Rattle.std.specs.Prelude.{Result, Ok, Err, Option, Some, None}
 use Rattle.std.specs.List.{list_any}
 use Rattle.std.specs.List.Sorted.{IsSortedBy, IsStableBy}
-use Rattle.gateway_words.specs.Places.{Position, IsFirst, start_of}
-use Rattle.gateway_words.specs.Reading.{◌>>=◌}
+use Rattle.gateway_words.specs.Places.{Position, start_of}
 use Rattle.mp_codec.specs.declared.fault.FormatFault.{FormatFault}
 use Rattle.mp_codec.specs.Value.{Value, Pairs, pairs_of, str_of}
-use Rattle.mp_codec.specs.Spelling.{Spells}
-use Rattle.mp_codec.specs.Fault.{Faults, no_fault, MapRules, MapFault, BytesFault, IsFirstFault}
-use Rattle.mp_codec.specs.Keys.{has_bytes, is_key, is_one_of, value_at, MissingKey, missing}
-use Rattle.mp_codec.specs.Maps.{Read, skipped, place_of, is_distinct, known_map_from, all_from}
+use Rattle.mp_codec.specs.Fault.{Faults, no_fault, MapRules, MapFault, IsFirstFault}
+use Rattle.mp_codec.specs.Keys.{has_bytes, value_at, MissingKey, missing}
+use Rattle.mp_codec.specs.Maps.{Read, skipped, place_of, is_distinct, known_map_from}
 use Rattle.mp_codec.proofs.JudgingLemmas.{StandBehind, JudgesOne}
 use Rattle.mp_codec.proofs.LeafLemmas.{skipped_judged}
 use Rattle.mp_codec.proofs.MapLemmas.{mapped, same_faults}
@@ -20,7 +18,7 @@ use Rattle.mp_codec.proofs.RuleLemmas.{RulesWithin, map_within}
 use Rattle.mp_codec.proofs.BytesLemmas.{ReadsBytes, JudgesBytes, bytes_judged}
 use Rattle.mp_codec.proofs.UniqueLemmas.{one_value}
 use Rattle.shard_file.specs.Rows.{Row, packages_key, conda_key, shard_keys, row_of, rows_in, rows_of, file_lt, FilesFault, shard_rules, ShardFault, ShardOf}
-use Rattle.shard_file.specs.Reading.{files_from, member_from, rows_at, shard_end_from, pairs_from, shard_from, rows_from}
+use Rattle.shard_file.specs.Reading.{files_from, member_from, rows_at, shard_end_from, shard_from, rows_from}
 use Rattle.shard_file.proofs.FileLemmas.{AreRows, files_judged, files_behind}
 use Rattle.shard_file.proofs.SortLemmas.{file_order, one_sort}
 

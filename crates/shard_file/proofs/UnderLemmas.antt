@@ -1,5 +1,5 @@
 -- The rows of one of the two maps, met one after the other.
-use Rattle.std.proofs.Common.{◌≡◌, refl, sym, ◌∙◌, ap, ℕ, zero, suc, ◌+◌, ◌<◌, Bool, true, false, not, cond, List, [], ◌∷◌, ◌++◌, length, filter, take, get_or, arith, length-append, append-nil}
+use Rattle.std.proofs.Common.{◌≡◌, refl, sym, ◌∙◌, ap, ℕ, ◌+◌, ◌<◌, Bool, true, false, not, cond, List, [], ◌∷◌, ◌++◌, length, take, get_or, length-append, append-nil}
 use Rattle.std.specs.Prelude.{Some, codes, if◌then◌else◌}
 use Rattle.mp_codec.specs.Writing.{map_head, array_head, pair_bytes}
 use Rattle.std.specs.List.{All, flat_map}

@@ -1,40 +1,38 @@
 -- A shard that is written is read again as its rows.
-use Rattle.std.proofs.Common.{◌≡◌, refl, sym, ◌∙◌, ap, subst, ℕ, zero, suc, ◌+◌, ◌*◌, ◌<◌, ◌≤◌, ◌^◌, ◌⊎◌, inl, inr, Bool, true, false, not, cond, ◌||◌, ◌&&◌, List, [], ◌∷◌, ◌++◌, length, filter, get_or, arith, append_assoc, append-nil}
-use Rattle.std.specs.Prelude.{Result, Ok, Err, Option, Some, None, IfSome}
+use Rattle.std.proofs.Common.{◌≡◌, refl, sym, ◌∙◌, ap, subst, ℕ, zero, suc, ◌+◌, ◌*◌, ◌<◌, ◌≤◌, ◌^◌, Bool, true, false, not, cond, ◌||◌, ◌&&◌, List, [], ◌∷◌, ◌++◌, length, filter, get_or, arith, append_assoc, append-nil}
+use Rattle.std.specs.Prelude.{Ok, Err, Option, Some, IfSome}
 use Rattle.std.specs.declared.cmp.Ordering.{Ordering}
 use Rattle.std.specs.declared.cmp.Ordering.TheVariants.{Less, Equal, Greater}
 use Rattle.std.specs.Ordering.{nat_cmp, bool_cmp, is_lt, ordering_then, ordering_reverse}
 use Rattle.std.specs.Cmp.Lexicographic.{slice_cmp}
-use Rattle.std.specs.List.{All, AllByRecursion, flat_map, list_any}
+use Rattle.std.specs.List.{All, AllByRecursion, flat_map}
 use Rattle.std.specs.List.Sorted.{IsSortedBy, IsStableBy, IsStrictlySortedBy, ties}
-use Rattle.std.specs.Str.{bytes_eq, is_utf8}
+use Rattle.std.specs.Str.{bytes_eq}
 use Rattle.std.proofs.lemmas.Cmp.{nat_list_cmp_total}
 use Rattle.std.proofs.lemmas.List.Elements.{filter-append}
 use Rattle.std.proofs.lemmas.List.Kept.{IsStrictlySortedBy-filter}
 use Rattle.std.proofs.lemmas.Slice.Eq.{bytes_eq-Decides}
-use Rattle.gateway_words.specs.Places.{Position, Between}
+use Rattle.gateway_words.specs.Places.{Position}
 use Rattle.gateway_words.specs.Reading.{◌>>=◌}
-use Rattle.mp_codec.specs.declared.fault.FormatFault.{FormatFault}
 use Rattle.mp_codec.specs.declared.fault.FaultKind.TheVariants as kind
 use Rattle.mp_codec.specs.Fault.{fault_here}
-use Rattle.mp_codec.specs.Maps.{Read, text_from, entries_from, known_map_from, all_from}
-use Rattle.mp_codec.specs.Writing.{str_bytes, array_head, map_head, known_map_bytes}
+use Rattle.mp_codec.specs.Maps.{Read, text_from, entries_from, known_map_from}
+use Rattle.mp_codec.specs.Writing.{str_bytes, array_head, known_map_bytes}
 use Rattle.mp_codec.proofs.BindLemmas.{bind_ok}
-use Rattle.mp_codec.proofs.MappedLemmas.{turned}
 use Rattle.mp_codec.proofs.UniqueLemmas.{one_value}
 use Rattle.mp_codec.specs.Value.{Value}
-use Rattle.mp_codec.proofs.WrittenLemmas.{Halves, halves, nothing_between, ReadAs, read_all, text_read_back, map_read_back, skipped_back, no_elements, no_elements_spelled, Written, known_map_written}
+use Rattle.mp_codec.proofs.WrittenLemmas.{Halves, halves, nothing_between, ReadAs, read_all, text_read_back, map_read_back, skipped_back, no_elements, no_elements_spelled, known_map_written}
 use Rattle.mp_codec.specs.Spelling.{Spells}
 use Rattle.mp_codec.specs.Writing.{IsShortest}
 use Rattle.mp_codec.proofs.ShortestLemmas.{IsTight, AreTight, tight_str, tight_array, tight_map, tight_none, tight_one_more, tight_known_map, pointwise, names_short, shortest}
-use Rattle.conda_record.specs.Record.{Fields, RecordAt}
+use Rattle.conda_record.specs.Record.{Fields}
 use Rattle.conda_record.specs.Reading.{record_from}
-use Rattle.conda_record.specs.Writing.{record_bytes, IsShort, AreText, IsReadAgain}
+use Rattle.conda_record.specs.Writing.{record_bytes, IsReadAgain}
 use Rattle.conda_record.proofs.RecordLemmas.{record_at_read}
 use Rattle.conda_record.proofs.WrittenLemmas.{read_again as record_again, tight_record}
 use Rattle.shard_file.specs.Rows.{Row, shard_keys, rows_of, file_lt, ShardOf}
 use Rattle.shard_file.specs.Names.{new_name_from}
-use Rattle.shard_file.specs.Reading.{has_file, file_key_from, file_value_from, file_end_from, files_after, files_from, member_from, rows_at, shard_from, rows_from}
+use Rattle.shard_file.specs.Reading.{has_file, file_key_from, file_value_from, files_after, files_from, member_from, shard_from, rows_from}
 use Rattle.shard_file.specs.Writing.{stands_in, rows_under, file_bytes, files_bytes, shard_bytes, row_cmp, IsWritableRow, AreWritable, IsReadableRow, IsRow}
 use Rattle.shard_file.proofs.SortLemmas.{file_order, one_sort}
 use Rattle.shard_file.proofs.ShardLemmas.{differ, all_rows, shard_is, shard_found}

@@ -1,16 +1,11 @@
 -- Reading a shard from a position, map by map, as functions of the position.
-use Rattle.std.specs.Prelude.{◌≡◌, ℕ, ◌||◌, ◌==◌, Bool, true, false, List, [], ◌∷◌, ◌++◌, length, map, Option, Some, None, Result, Ok, Err, if◌then◌else◌, slice_index_or}
-use Rattle.std.specs.Ordering.{nat_cmp}
-use Rattle.std.specs.Cmp.Lexicographic.{slice_cmp}
+use Rattle.std.specs.Prelude.{ℕ, ◌==◌, Bool, true, false, List, [], ◌∷◌, ◌++◌, Option, Some, None, Result, Ok, if◌then◌else◌, slice_index_or}
 use Rattle.std.specs.List.{list_any}
 use Rattle.std.specs.Str.{bytes_eq}
 use Rattle.gateway_words.specs.Places.{Position}
 use Rattle.gateway_words.specs.Reading.{◌>>=◌}
 use Rattle.mp_codec.specs.declared.fault.FormatFault.{FormatFault}
-use Rattle.mp_codec.specs.declared.fault.FaultKind.TheVariants as kind
-use Rattle.mp_codec.specs.Fault.{fault_here}
-use Rattle.mp_codec.specs.Maps.{Read, entries_from, map_from, text_from, skipped, unread, known_key_from, known_value_from, known_end_from, all_from}
-use Rattle.conda_record.specs.Record.{Fields}
+use Rattle.mp_codec.specs.Maps.{Read, entries_from, map_from, skipped, unread, known_key_from, known_value_from, known_end_from, all_from}
 use Rattle.conda_record.specs.Reading.{record_from}
 use Rattle.shard_file.specs.Rows.{Row, shard_keys}
 use Rattle.shard_file.specs.Names.{new_name_from}

@@ -1,7 +1,5 @@
 -- What contracts see of a row that is lent, and of a refusal.
-use Rattle.std.specs.Prelude.{◌≡◌, List, ℕ, Option, Some, None}
-use Rattle.std.specs.declared.alloc.Global.{Global}
-use Rattle.std.specs.declared.vec.Vec.{Vec}
+use Rattle.std.specs.Prelude.{List, ℕ, Option, Some, None}
 use Rattle.mp_codec.specs.declared.fault.FormatFault.{FormatFault}
 use Rattle.conda_record.specs.View.{seen}
 use Rattle.shard_file.specs.declared.refusal.ShardRefusal.{ShardRefusal}

@@ -1,5 +1,5 @@
 -- The bytes of a shard that is written, and which rows can be (docs/FORMATS.md, "Shards").
-use Rattle.std.specs.Prelude.{◌≡◌, ℕ, ◌<◌, ◌^◌, Bool, true, false, not, List, [], ◌∷◌, ◌++◌, length, Option, Some, codes, if◌then◌else◌}
+use Rattle.std.specs.Prelude.{◌≡◌, ℕ, ◌<◌, ◌^◌, Bool, true, false, not, List, [], ◌∷◌, ◌++◌, length, Some, codes, if◌then◌else◌}
 use Rattle.std.specs.declared.cmp.Ordering.{Ordering}
 use Rattle.std.specs.Ordering.{nat_cmp, bool_cmp, on, then_cmp}
 use Rattle.std.specs.Cmp.Lexicographic.{slice_cmp}
@@ -7,7 +7,7 @@ use Rattle.std.specs.List.{All, filter, flat_map}
 use Rattle.std.specs.List.Sorted.{IsStrictlySortedBy}
 use Rattle.mp_codec.specs.Writing.{str_bytes, array_head, map_head, pair_bytes, known_map_bytes}
 use Rattle.conda_record.specs.Writing.{record_bytes, IsShort, IsWritable, AreText, AreFields, IsReadAgain}
-use Rattle.shard_file.specs.Rows.{Row, shard_keys, ShardOf}
+use Rattle.shard_file.specs.Rows.{Row, shard_keys}
 
 -- ---- the bytes
 

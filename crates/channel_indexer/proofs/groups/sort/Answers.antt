@@ -11,6 +11,7 @@ returns-clause-named c = λ named. All-permutation IsNamed _ _ c.sort_by.ensures
 
 pub returns-clause-in_order : goal.returns-clause-in_order
 returns-clause-in_order c = on_ok_weaker c.sort_by.result (λ h. record {
-    ascending = h file_lt file_order (answers_always _ _ _ (λ f a r f' k. search rules));
-    in_order = c.sort_by.ensures.stable file_lt file_order (answers_always _ _ _ (λ f a r f' k. search rules));
-  }) c.sort_by.ensures.sorted
+  ascending = h file_lt file_order (answers_always _ _ _ (λ f a r f' k. search rules));
+  in_order = c.sort_by.ensures.stable file_lt file_order (answers_always _ _ _ (λ f a r f' k. search rules));
+  same = c.sort_by.ensures.permutation;
+}) c.sort_by.ensures.sorted

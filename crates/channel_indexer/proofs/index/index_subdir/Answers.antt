@@ -1,4 +1,4 @@
-use Rattle.std.proofs.Common.{◌≡◌, IfSome, subst, ap, sym, ◌∙◌, rules}
+use Rattle.std.proofs.Common.{rules}
 use Rattle.std.proofs.lemmas.Result.{err_from_is_err_and}
 use Rattle.channel_indexer.proofs.IndexLemmas.{place-fails, place-stops, plan-no-store}
 use Rattle.channel_indexer.proofs.index.index_subdir.Goals as goal

@@ -1,4 +1,4 @@
-use Rattle.std.proofs.Common.{◌≡◌, IfSome, subst, ap, sym, ◌∙◌}
+use Rattle.std.proofs.Common.{◌≡◌, IfSome, subst, ◌∙◌}
 use Rattle.channel_store.specs.declared.store.Got.{Got}
 use Rattle.channel_store.specs.Store.{found, found_in}
 use Rattle.channel_indexer.proofs.IndexLemmas.{absent-is, long-is}

@@ -1,8 +1,6 @@
-use Rattle.std.proofs.Common.{◌≡◌, map, length, ap, sym, ◌∙◌, arith, rules}
+use Rattle.std.proofs.Common.{map, sym, ◌∙◌, arith, rules}
 use Rattle.std.proofs.lemmas.List.{length-map}
 use Rattle.channel_indexer.specs.Grouped.{group_of}
-use Rattle.channel_indexer.specs.Groups.{Group}
-use Rattle.shard_file.specs.Rows.{Row}
 use Rattle.channel_indexer.specs.Indexing.{SaysGroups}
 use Rattle.channel_indexer.proofs.InputLemmas.{rows-named}
 use Rattle.channel_indexer.proofs.IndexLemmas.{plan-fails}
@@ -13,14 +11,14 @@ grouped-requires c = c.sort.ensures.named (rows-named c.args.bytes.items c.in_ok
 
 pub returns-in_err-prepare : goal.returns-in_err-prepare
 returns-in_err-prepare c =
-  let said : SaysGroups c.args.bytes.items c.in_ok-records.records.items (map group_of c.in_ok-groups.groups.entries) = record {
-    read = c.in_ok-records.ensures;
-    rows = c.sort.new.records.items;
-    in_order = c.in_ok-sort.ensures.in_order;
-    grouped = c.in_ok-groups.ensures;
-  } in
-  let fails = plan-fails c.args.place.now c.args.bytes.items _ _ said c.in_err-prepare.field-0.0 c.in_err-prepare.ensures in
-  search rules
+    let said : SaysGroups c.args.bytes.items c.in_ok-records.records.items (map group_of c.in_ok-groups.groups.entries) = record {
+      read = c.in_ok-records.ensures;
+      rows = c.sort.new.records.items;
+      in_order = c.in_ok-sort.ensures.in_order;
+      grouped = c.in_ok-groups.ensures;
+    } in
+    let fails = plan-fails c.args.place.now c.args.bytes.items _ _ said c.in_err-prepare.field-0.0 c.in_err-prepare.ensures in
+    search rules
 
 pub returns : goal.returns
 returns c = record {

@@ -1,6 +1,6 @@
-use Rattle.std.proofs.Common.{◌≡◌, Bool, cond, ◌+◌, take, IfSome, Option, subst, ap, sym, ◌∙◌, arith, rules}
+use Rattle.std.proofs.Common.{◌≡◌, Bool, cond, ◌+◌, IfSome, Option, subst, ap, sym, ◌∙◌, arith}
 use Rattle.channel_store.specs.Store.{Files}
-use Rattle.channel_indexer.specs.Puts.{with_puts, stands_in}
+use Rattle.channel_indexer.specs.Puts.{stands_in}
 use Rattle.channel_indexer.proofs.PutLemmas.{puts-on, stops-on, count-on}
 use Rattle.channel_indexer.proofs.putting.put_all.Goals as goal
 use Rattle.channel_indexer.proofs.putting.put_all.Goals.{then-branch, else-branch}

@@ -1,4 +1,4 @@
-use Rattle.std.proofs.Common.{◌≡◌, List, ap, ◌∙◌}
+use Rattle.std.proofs.Common.{List, ap, ◌∙◌}
 use Rattle.channel_indexer.specs.Puts.{Put, with_puts}
 use Rattle.channel_indexer.proofs.PutLemmas.{stops-last, stops-whole, made-last}
 use Rattle.channel_indexer.proofs.putting.put_prepared.Goals as goal

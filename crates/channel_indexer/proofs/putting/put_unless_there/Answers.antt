@@ -1,4 +1,4 @@
-use Rattle.std.proofs.Common.{◌≡◌, IfSome, subst, ap, sym, ◌∙◌, rules}
+use Rattle.std.proofs.Common.{◌≡◌, IfSome, subst, ap, sym, ◌∙◌}
 use Rattle.std.proofs.lemmas.Slice.Eq.{bytes_eq-Decides}
 use Rattle.channel_store.specs.declared.store.Got.{Got}
 use Rattle.channel_store.specs.Store.{found, found_in, with_file}

@@ -1,7 +1,7 @@
-use Rattle.std.proofs.Common.{◌≡◌, sym, ◌∙◌, ap, ℕ, ◌+◌, ◌-◌, List, [], ◌∷◌, ◌++◌, arith}
+use Rattle.std.proofs.Common.{◌≡◌, sym, ◌∙◌, ap, ℕ, ◌+◌, ◌-◌, List, [], ◌∷◌, ◌++◌}
 use Rattle.std.proofs.lemmas.Result.{err_from_is_err_and}
 use Rattle.conda_record.specs.Texts.{texts_at}
-use Rattle.conda_record.proofs.TextLoop.{in_front, text_goes_on, text_stops, texts_done, no_front}
+use Rattle.conda_record.proofs.TextLoop.{in_front, text_goes_on, text_stops, texts_done}
 use Rattle.conda_record.proofs.value.texts.Goals as goal
 
 pub returns-in_err-text : goal.returns-in_err-text

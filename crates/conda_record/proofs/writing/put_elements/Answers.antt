@@ -1,5 +1,4 @@
-use Rattle.std.proofs.Common.{◌≡◌, subst, ◌∙◌, ap, ℕ, ◌+◌, ◌<◌, ◌++◌, List, arith, get_or}
-use Rattle.std.specs.Prelude.{slice_index_or}
+use Rattle.std.proofs.Common.{◌∙◌, ap, ℕ, ◌++◌, List}
 use Rattle.mp_codec.specs.Writing.{str_bytes}
 use Rattle.conda_record.specs.Writing.{AreText}
 use Rattle.mp_codec.proofs.AppendLemmas.{one_more, all_more}

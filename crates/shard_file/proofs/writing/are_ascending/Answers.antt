@@ -1,4 +1,4 @@
-use Rattle.std.proofs.Common.{rules, ◌≡◌, refl, sym, ◌∙◌, true, false, arith}
+use Rattle.std.proofs.Common.{◌≡◌, refl, false, arith}
 use Rattle.std.specs.Ordering.{is_lt}
 use Rattle.shard_file.specs.Writing.{row_cmp}
 use Rattle.shard_file.proofs.AscendingLemmas.{ascending, not_ascending}

@@ -1,4 +1,4 @@
-use Rattle.std.proofs.Common.{◌≡◌, ◌∙◌, ap, ◌++◌, ℕ, List, false, true}
+use Rattle.std.proofs.Common.{◌∙◌, ap, ◌++◌, ℕ, List, false, true}
 use Rattle.std.specs.Prelude.{codes}
 use Rattle.mp_codec.specs.Writing.{map_head}
 use Rattle.mp_codec.proofs.AppendLemmas.{on_ok, on_ok_too, on_err, both_written, kept_before}

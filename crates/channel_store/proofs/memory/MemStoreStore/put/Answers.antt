@@ -1,11 +1,7 @@
-use Rattle.std.proofs.Common.{◌≡◌, ℕ, List, Some, cond, ap, sym, ◌∙◌, rules}
+use Rattle.std.proofs.Common.{◌≡◌, Some, ◌∙◌, rules}
 use Rattle.std.specs.String.{string_bytes}
-use Rattle.std.specs.Str.{bytes_eq}
-use Rattle.std.specs.BTreeMap.{get_by_text}
 use Rattle.std.specs.FinMap.{insert}
 use Rattle.std.proofs.lemmas.Map.Text.{btree_map_updates_text}
-use Rattle.channel_store.specs.Store.{Files}
-use Rattle.channel_store.specs.Memory.{MemoryStore, counted}
 use Rattle.channel_store.proofs.FilesLemmas.{files-put}
 use Rattle.channel_store.proofs.memory.MemStoreStore.put.Goals as goal
 

@@ -1,4 +1,4 @@
-use Rattle.std.proofs.Common.{◌≡◌, None, ap, sym, ◌∙◌, rules}
+use Rattle.std.proofs.Common.{◌≡◌, None, ◌∙◌, rules}
 use Rattle.std.specs.FinMap.{remove}
 use Rattle.std.specs.List.{filter}
 use Rattle.std.proofs.lemmas.Fn.{filter_same}

@@ -1,7 +1,5 @@
-use Rattle.std.proofs.Common.{◌≡◌, [], Some, unwrap_or, ap, sym, ◌∙◌}
-use Rattle.serde_json.specs.View.{view}
-use Rattle.serde_json.specs.Find.{as_str}
-use Rattle.conda_record.specs.Json.{said_at, fields_of_json, fields_with}
+use Rattle.std.proofs.Common.{Some, unwrap_or, ap, sym, ◌∙◌}
+use Rattle.conda_record.specs.Json.{fields_of_json}
 use Rattle.conda_record.proofs.record.PackageRecord.from_json.Goals as goal
 
 pub returns-clause-ok : goal.returns-clause-ok

@@ -5,7 +5,7 @@ use Rattle.gateway_words.specs.Places.{Position}
 use Rattle.mp_codec.specs.declared.fault.FormatFault.{FormatFault}
 use Rattle.mp_codec.specs.Fault.{IsFirstFault, WithBreaks}
 use Rattle.mp_codec.proofs.HeadLemmas.{ok_first, ok_second}
-use Rattle.conda_record.specs.Record.{Fields, RecordFault, RecordAt}
+use Rattle.conda_record.specs.Record.{Fields, RecordFault}
 use Rattle.conda_record.specs.Reading.{record_from}
 use Rattle.conda_record.proofs.RecordLemmas.{record_found, record_first, record_at_read}
 use Rattle.conda_record.proofs.RefusalLemmas.{fault_along, only_memory}

@@ -1,4 +1,3 @@
-use Rattle.std.proofs.Common.{subst}
 use Rattle.mp_codec.proofs.AppendLemmas.{on_ok}
 use Rattle.conda_record.proofs.WrittenLemmas.{read_again}
 use Rattle.conda_record.proofs.record.PackageRecord.write.Goals as goal

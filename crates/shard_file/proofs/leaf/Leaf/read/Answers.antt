@@ -1,4 +1,4 @@
-use Rattle.std.proofs.Common.{◌≡◌, sym, ◌∙◌, ap}
+use Rattle.std.proofs.Common.{sym, ◌∙◌, ap}
 use Rattle.shard_file.specs.Reading.{rows_from}
 use Rattle.shard_file.proofs.ShardLemmas.{shard_found, shard_first, shard_only, shard_no_fault}
 use Rattle.shard_file.proofs.leaf.Leaf.read.Goals as goal
