@@ -1,10 +1,10 @@
 //! Words that are those of `show`, specs among them, and words that are not.
 
-use crate::tests::{ONE_FILE, ONE_LINE, ROOM};
+use crate::tests::{ONE_FILE, ONE_LINE, ROOM, seen};
 use crate::{bytes_of, show, sink, source, words_of};
 use gateway_tool::{
-    BAD_FILE, Note, OK, OUT_OF_MEMORY, READ_FAULT, TOO_MUCH_INPUT, USAGE, WRITE_FAULT, run_show,
-    status_line,
+    BAD_FILE, OK, OUT_OF_MEMORY, READ_FAULT, STORE_FAULT, TOO_MUCH_INPUT, USAGE, WRITE_FAULT,
+    run_show, status_line,
 };
 use std::test::Fail;
 
@@ -73,7 +73,7 @@ fn refuses_words_that_are_not_those_of_show(rt: HostRuntime) -> Result<(), Fail>
         let mut input = source(alloc, bytes_of(alloc, ONE_FILE)?, 1, &[0])?;
         let mut out = sink(alloc, ROOM, 1, &[0])?;
         let answer = run_show(alloc, words.as_slice(), &mut input, &mut out);
-        assert_eq!(rt; answer, (USAGE, Note::Nothing), "{line:?}");
+        assert_eq!(rt; seen(answer), (USAGE, None), "{line:?}");
         assert_eq!(rt; out.written(), [].as_slice(), "{line:?}");
     }
     Ok(())
@@ -86,7 +86,7 @@ fn shows_the_file_where_the_spec_matches_it(rt: HostRuntime) -> Result<(), Fail>
         let mut out = sink(alloc, ROOM, usize::MAX, &[])?;
         let answer = show(alloc, spec, bytes_of(alloc, ONE_FILE)?, &mut out)?;
         let text = if is_matched { ONE_LINE } else { "" };
-        assert_eq!(rt; answer, (OK, Note::Nothing), "{spec}");
+        assert_eq!(rt; seen(answer), (OK, None), "{spec}");
         assert_eq!(rt; out.written(), text.as_bytes(), "{spec}");
     }
     Ok(())
@@ -101,6 +101,7 @@ fn each_status_has_its_number_and_its_line(rt: HostRuntime) {
         (WRITE_FAULT, 4, Some("gateway: write fault")),
         (OUT_OF_MEMORY, 5, Some("gateway: out of memory")),
         (TOO_MUCH_INPUT, 6, Some("gateway: too much input")),
+        (STORE_FAULT, 7, Some("gateway: store fault")),
         (BAD_FILE, 8, Some("gateway: bad file")),
         (255, 255, None),
     ] {
