@@ -112,4 +112,5 @@ def main():
     print(f"{len(rows)} records")
 
 
-main()
+if __name__ == "__main__":
+    main()
