@@ -47,7 +47,7 @@ place-within n t ps e =
 
 -- ---- blanks in a row
 
--- where a byte stands, the text goes on
+-- where a blank stands, the text goes on
 goes-on : (t : List ℕ) (n : ℕ) → begins_at space (drop n t) ≡ true → n < length t
 goes-on [] zero h = grind (arith, h)
 goes-on [] (suc n) h = grind (arith, h)
