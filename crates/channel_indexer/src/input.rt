@@ -76,7 +76,8 @@ fn records_of(
     files: Option<&Map<String, Value>>,
     conda: bool,
 ) -> Result<Vec<FileRecord>, IndexFault>
-    ensures { Gives (λ rows. rows.items) fault_of result (rows_of conda (members_lent files.entry)) }
+    ensures { Gives (λ rows. rows.items) fault_of result
+        (rows_of conda (members_lent files.entry)) }
 {
     match files {
         Some(files) => records_of_files(alloc, files, conda),

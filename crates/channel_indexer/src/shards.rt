@@ -54,7 +54,8 @@ pub(crate) fn prepare(
 ) -> Result<Prepared, IndexFault>
     requires place { is_place place.now ≡ true }
     requires named { All IsName (map (λ g. g.name) (map group_of groups.entries)) }
-    requires ascending { IsStrictlySortedBy (slice_cmp nat_cmp) (map (λ g. g.name) (map group_of groups.entries)) }
+    requires ascending { IsStrictlySortedBy (slice_cmp nat_cmp)
+        (map (λ g. g.name) (map group_of groups.entries)) }
     ensures { Prepares place.now (map group_of groups.entries) result }
 {
     let mut shards = Vec::with_capacity(alloc, groups.len())?;

@@ -81,21 +81,31 @@ fn read<R: Files>(rt: &R, alloc: Global, name: &str, limit: u64) -> io::Result<G
     Ok(Got::Bytes(bytes))
 }
 
-// Writes a file beside the one that it takes the place of, so that neither is ever there in part.
+// Writes a file beside the one that it takes the place of, so that neither is ever there in part. The
+// new one is in its place on the disk, too, when it returns.
 fn write<R: Files>(rt: &R, alloc: Global, name: &str, bytes: &[u8]) -> io::Result<()> {
-    if let Some((folder, _)) = name.rsplit_once('/') {
-        fs::create_dir_all(rt, folder)?;
-    }
+    let folder = folder_of(name);
+    fs::create_dir_all(rt, folder)?;
     let temporary = format!(in alloc; "{name}.temporary")?;
-    let written = write_synced(rt, temporary.as_str(), bytes).and_then(|_| fs::rename(
-        rt,
-        temporary.as_str(),
-        name,
-    ));
-    if written.is_err() {
+    if let Err(error) = replace(rt, temporary.as_str(), name, bytes) {
         let _ = fs::remove_file(rt, temporary.as_str());
+        return Err(error);
     }
-    written
+    fs::open(rt, folder)?.sync_all()
+}
+
+// The folder in which a file stands.
+fn folder_of(name: &str) -> &str {
+    match name.rsplit_once('/') {
+        Some((folder, _)) => folder,
+        None => ".",
+    }
+}
+
+// Writes a temporary file, and puts it in the place of another.
+fn replace<R: Files>(rt: &R, temporary: &str, name: &str, bytes: &[u8]) -> io::Result<()> {
+    write_synced(rt, temporary, bytes)?;
+    fs::rename(rt, temporary, name)
 }
 
 // Writes a file whose bytes are on the disk when it returns.

@@ -114,7 +114,8 @@ fn texts(alloc: Global, value: &Value, key: &str) -> Result<Vec<Text>, AllocErro
 
 // The elements of the array behind a key, if that is what stands there.
 fn array<'a>(value: &'a Value, key: &str) -> Option<&'a [Value]>
-    ensures { option_map (λ items. items_view items.now) result ≡ said_at as_array key.now (view value.now) }
+    ensures { option_map (λ items. items_view items.now) result
+        ≡ said_at as_array key.now (view value.now) }
 {
     let items = value.get(key)?.as_array()?;
     Some(items.as_slice())

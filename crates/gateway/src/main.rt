@@ -1,7 +1,9 @@
-//! The program `gateway`: makes the real source and sink, makes one call, and ends with its status.
+//! The program `gateway`: makes the real source, sink and store, makes one call, and ends with its
+//! status.
 #![tactic(auto)]
 
-use gateway_tool::{OUT_OF_MEMORY, USAGE, run_show, status_line};
+use channel_store::FolderStore;
+use gateway_tool::{OUT_OF_MEMORY, USAGE, run_files, status_line};
 use link_io::{StdSink, StdSource};
 use mp_codec::Text;
 use std::env;
@@ -12,8 +14,18 @@ use std::rt::Env;
 fn main(rt: HostRuntime) -> ExitCode {
     let mut input = StdSource::new(rt.stdin());
     let mut out = StdSink::new(rt.stdout());
+    let mut store = FolderStore::new(rt);
     let status = match words(&rt) {
-        Ok(words) => run_show(rt.alloc(), words.as_slice(), &mut input, &mut out).0,
+        Ok(words) => {
+            run_files(
+                rt.alloc(),
+                words.as_slice(),
+                &mut input,
+                &mut out,
+                &mut store,
+            )
+            .0
+        }
         Err(error) if error.kind() == ErrorKind::OutOfMemory => OUT_OF_MEMORY,
         Err(_) => USAGE,
     };

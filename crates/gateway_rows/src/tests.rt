@@ -1,5 +1,9 @@
-//! Runs of `show`, and what the rows share.
+//! Runs of `show` and `index`, and what the rows share.
 
+use gateway_tool::Note;
+use mp_codec::FormatFault;
+
+mod index;
 mod limits;
 mod outside;
 mod shards;
@@ -15,3 +19,11 @@ pub const ONE_FILE: &str = "81 ae 7061636b616765732e636f6e6461 81 ab 612d312d302
 
 /// The line of that file.
 pub const ONE_LINE: &str = "a-1-0.conda 1 0 0\n";
+
+/// The status of an answer, and the fault of an input that is no shard.
+pub fn seen(answer: (u8, Note)) -> (u8, Option<FormatFault>) {
+    match answer.1 {
+        Note::Shard(fault) => (answer.0, Some(fault)),
+        Note::Nothing | Note::Indexing(_) => (answer.0, None),
+    }
+}

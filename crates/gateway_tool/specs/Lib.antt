@@ -2,6 +2,8 @@ pub mod Words
 pub mod Status
 pub mod Texts
 pub mod Show
+pub mod Index
+pub mod Files
 pub use Rattle.gateway_words.specs.Causes
 pub use Rattle.match_spec.specs.Parts
 pub use Rattle.match_spec.specs.Matching

@@ -1,13 +1,15 @@
 -- What show answers: the rows that were written, the fault of a bad file, and the status that an input leads to.
-use Rattle.std.specs.Prelude.{◌≡◌, ℕ, ◌<◌, ◌≤◌, List, ◌∷◌, length, Option, IfSome}
+use Rattle.std.specs.Prelude.{◌≡◌, ◌≢◌, ℕ, ◌<◌, ◌≤◌, List, [], ◌∷◌, length, Option, IfSome}
+use Rattle.std.specs.Io.KnownBytes.{append_known}
+use Rattle.link_io.specs.Transfer.{AppendsPart}
 use Rattle.mp_codec.specs.declared.fault.FormatFault.{FormatFault}
 use Rattle.mp_codec.specs.Fault.{IsFirstFault}
 use Rattle.match_spec.specs.Parts.{Meaning}
 use Rattle.shard_file.specs.Rows.{Row, ShardOf, ShardFault}
 use Rattle.gateway_tool.specs.declared.note.Note.{Note}
-use Rattle.gateway_tool.specs.declared.note.Note.TheVariants.{Shard}
+use Rattle.gateway_tool.specs.declared.note.Note.TheVariants.{Nothing, Shard}
 use Rattle.gateway_tool.specs.declared.show.TheConstants.{MOST_SHARD_BYTES}
-use Rattle.gateway_tool.specs.declared.status.TheConstants.{OK, WRITE_FAULT, TOO_MUCH_INPUT, BAD_FILE}
+use Rattle.gateway_tool.specs.declared.status.TheConstants.{OK, READ_FAULT, WRITE_FAULT, OUT_OF_MEMORY, TOO_MUCH_INPUT, BAD_FILE}
 use Rattle.gateway_tool.specs.Status.{IsOneOf, apart_from_input}
 use Rattle.gateway_tool.specs.Texts.{show_text}
 
@@ -45,3 +47,14 @@ pub record LeadsTo (input : List ℕ) (status : ℕ) : Type 0 where
   -- an input in which a fault stands is a bad file
   pub no_shard : (f : FormatFault) → length input ≤ MOST_SHARD_BYTES → ShardFault input f
       → IsOneOf (BAD_FILE ∷ apart_from_input) status
+
+-- what show answered by this spec of what its source had left, and what became of the output
+pub record ShowAnswers (spec : Meaning) (left before now : Option (List ℕ)) (status : ℕ) (said : Note) : Type 0 where
+  pub answered : status ≡ OK → Shows left (λ text. now ≡ append_known before text) spec
+  pub part : status ≡ WRITE_FAULT → Shows left (AppendsPart before now) spec
+  pub silent : status ≢ OK → status ≢ WRITE_FAULT → now ≡ before
+  pub bad_file : status ≡ BAD_FILE → IsRefused left said
+  pub noted : status ≢ BAD_FILE → said ≡ Nothing
+  pub too_much : status ≡ TOO_MUCH_INPUT → IfSome left IsTooLong
+  pub leads : IfSome left (λ bytes. LeadsTo bytes status)
+  pub statuses : IsOneOf (OK ∷ READ_FAULT ∷ WRITE_FAULT ∷ OUT_OF_MEMORY ∷ TOO_MUCH_INPUT ∷ BAD_FILE ∷ []) status

@@ -3,13 +3,14 @@ use Rattle.std.specs.Prelude.{◌≡◌, ℕ, ◌≤◌, ◌==◌, List, [], ◌
 use Rattle.std.specs.Option.{option_map}
 use Rattle.std.specs.List.{find, list_any}
 use Rattle.gateway_words.specs.Causes.{Rose}
-use Rattle.gateway_tool.specs.declared.status.TheConstants.{USAGE, READ_FAULT, WRITE_FAULT, OUT_OF_MEMORY, TOO_MUCH_INPUT, BAD_FILE}
+use Rattle.gateway_tool.specs.declared.status.TheConstants.{USAGE, READ_FAULT, WRITE_FAULT, OUT_OF_MEMORY, TOO_MUCH_INPUT, STORE_FAULT, BAD_FILE}
 
 -- the lines that are printed on standard error, with their statuses
 abbrev pub status_lines : List (ℕ × List ℕ)
 status_lines =
     (USAGE, codes "gateway: usage") ∷ (READ_FAULT, codes "gateway: read fault") ∷ (WRITE_FAULT, codes "gateway: write fault")
-    ∷ (OUT_OF_MEMORY, codes "gateway: out of memory") ∷ (TOO_MUCH_INPUT, codes "gateway: too much input") ∷ (BAD_FILE, codes "gateway: bad file") ∷ []
+    ∷ (OUT_OF_MEMORY, codes "gateway: out of memory") ∷ (TOO_MUCH_INPUT, codes "gateway: too much input") ∷ (STORE_FAULT, codes "gateway: store fault")
+    ∷ (BAD_FILE, codes "gateway: bad file") ∷ []
 
 -- the line of a status, if it has one
 abbrev pub line_of : ℕ → Option (List ℕ)

@@ -1,8 +1,9 @@
 -- The words of a command line, and what they ask for.
-use Rattle.std.specs.Prelude.{ℕ, Bool, false, ◌==◌, List, [], ◌∷◌, Option, None, if◌then◌else◌, codes}
+use Rattle.std.specs.Prelude.{ℕ, Bool, false, ◌==◌, List, [], ◌∷◌, Option, Some, None, ◌&&◌, if◌then◌else◌, codes}
 use Rattle.std.specs.Result.{result_ok}
 use Rattle.std.specs.Str.{bytes_eq}
 use Rattle.gateway_words.specs.Ascii.{dash}
+use Rattle.channel_store.specs.Names.{is_place}
 use Rattle.match_spec.specs.Parts.{Meaning}
 use Rattle.match_spec.specs.Reading.{spec_of}
 
@@ -19,3 +20,8 @@ spec_word word = if is_option word then None else result_ok (spec_of word)
 abbrev pub shown_spec : List (List ℕ) → Option Meaning
 shown_spec (command ∷ word ∷ []) = if bytes_eq command (codes "show") then spec_word word else None
 shown_spec words = None
+
+-- the place that the words ask to be indexed, where they are those of index: its own name and a place
+abbrev pub indexed_place : List (List ℕ) → Option (List ℕ)
+indexed_place (command ∷ place ∷ []) = if bytes_eq command (codes "index") && is_place place then Some place else None
+indexed_place words = None

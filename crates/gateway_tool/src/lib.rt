@@ -1,20 +1,24 @@
-//! The program's commands: each as one call over any source and any sink.
+//! The program's commands: each as one call over any source, any sink and any store.
 //!
 //! Contracts see the words as texts, the input as the bytes that its source has left, and the
 //! output as the bytes that its sink took, where they are told (`link_io`). `specs/Words` says
-//! which words are a command, `specs/Texts` what is printed, and `specs/Show` what an input leads
-//! to. A program makes the real source and sink, makes one call, prints the status's line and ends
-//! with the status.
+//! which words are a command, `specs/Texts` what is printed, `specs/Show` what an input leads to,
+//! and `specs/Index` what becomes of a store. A program makes the real source, sink and store,
+//! makes one call, prints the status's line and ends with the status.
 #![tactic(auto)]
 
+mod files;
+mod index;
 mod note;
 mod show;
 mod status;
 mod texts;
 mod words;
 
+pub use files::run_files;
 pub use note::Note;
 pub use show::{MOST_SHARD_BYTES, run_show};
 pub use status::{
-    BAD_FILE, OK, OUT_OF_MEMORY, READ_FAULT, TOO_MUCH_INPUT, USAGE, WRITE_FAULT, status_line,
+    BAD_FILE, OK, OUT_OF_MEMORY, READ_FAULT, STORE_FAULT, TOO_MUCH_INPUT, USAGE, WRITE_FAULT,
+    status_line,
 };

@@ -1,12 +1,15 @@
 //! What a command tells beside its status.
 
+use channel_indexer::IndexFault;
 use mp_codec::FormatFault;
 
 /// What a command tells beside its status.
-#[derive(Clone, Copy, Debug, PartialEq, Eq)]
+#[derive(Debug, Drop)]
 pub enum Note {
     /// Nothing: with every status but that of a bad file.
     Nothing,
     /// The input of `show` is no shard: the first fault that stands in it.
     Shard(FormatFault),
+    /// A place can't be indexed, by the file that stands there.
+    Indexing(IndexFault),
 }

@@ -1,10 +1,9 @@
 //! The command `show`: the records of one shard that a spec matches.
-ghost use Rattle.std.specs.Prelude.{◌≡◌, ◌≢◌, ◌+◌, ◌∷◌, [], None, IfSome, IsSomeAnd};
-ghost use Rattle.std.specs.Io.KnownBytes.{append_known};
-ghost use Rattle.link_io.specs.Transfer.{LosesAtMost, AppendsPart};
+ghost use Rattle.std.specs.Prelude.{◌≡◌, ◌≢◌, ◌+◌, ◌∷◌, [], None, IfSome};
+ghost use Rattle.link_io.specs.Transfer.{LosesAtMost};
 ghost use Rattle.gateway_tool.specs.Words.{shown_spec};
 ghost use Rattle.gateway_tool.specs.Status.{IsOneOf, RefusesWords, HasStatusCause};
-ghost use Rattle.gateway_tool.specs.Show.{Shows, IsRefused, IsTooLong, LeadsTo};
+ghost use Rattle.gateway_tool.specs.Show.{ShowAnswers};
 
 use crate::Note;
 use crate::status::{BAD_FILE, OK, OUT_OF_MEMORY, READ_FAULT, TOO_MUCH_INPUT, USAGE, WRITE_FAULT};
@@ -38,19 +37,10 @@ pub fn run_show<I: Source, O: Sink>(
     ensures wrong_words { shown_spec words.now ≡ None
         → RefusesWords result.0 input.old input.new out.old out.new }
 
-    // What was written: the text of the matching rows, with status 4 a part of it, else nothing.
-    ensures answered { result.0 ≡ OK → IsSomeAnd (shown_spec words.now) (Shows
-        (I.left input.old) (λ text. O.written out.new ≡ append_known (O.written out.old) text)) }
-    ensures part { result.0 ≡ WRITE_FAULT → IsSomeAnd (shown_spec words.now) (Shows
-        (I.left input.old) (AppendsPart (O.written out.old) (O.written out.new))) }
-    ensures silent { result.0 ≢ OK → result.0 ≢ WRITE_FAULT
-        → O.written out.new ≡ O.written out.old }
-
-    // What a told input leads to.
-    ensures bad_file { result.0 ≡ BAD_FILE → IsRefused (I.left input.old) result.1 }
+    // What was written by the spec of the words, and what a told input leads to.
+    ensures answers { IfSome (shown_spec words.now) (λ spec. ShowAnswers spec (I.left input.old)
+        (O.written out.old) (O.written out.new) result.0 result.1) }
     ensures noted { result.0 ≢ BAD_FILE → result.1 ≡ Note.Nothing }
-    ensures too_much { result.0 ≡ TOO_MUCH_INPUT → IfSome (I.left input.old) IsTooLong }
-    ensures leads { IfSome (I.left input.old) (λ bytes. LeadsTo bytes result.0) }
 
     ensures read_fault { HasStatusCause READ_FAULT
         (I.faults input.old) (I.faults input.new) result.0 }
@@ -69,25 +59,13 @@ pub fn run_show<I: Source, O: Sink>(
 
 // Prints the records that a spec matches from the shard that the input is.
 fn show<I: Source, O: Sink>(alloc: Global, spec: &Spec, input: &mut I, out: &mut O) -> (u8, Note)
-    ensures answered { result.0 ≡ OK → Shows (I.left input.old)
-        (λ text. O.written out.new ≡ append_known (O.written out.old) text) spec.now }
-    ensures part { result.0 ≡ WRITE_FAULT → Shows (I.left input.old)
-        (AppendsPart (O.written out.old) (O.written out.new)) spec.now }
-    ensures silent { result.0 ≢ OK → result.0 ≢ WRITE_FAULT
-        → O.written out.new ≡ O.written out.old }
-
-    ensures bad_file { result.0 ≡ BAD_FILE → IsRefused (I.left input.old) result.1 }
-    ensures noted { result.0 ≢ BAD_FILE → result.1 ≡ Note.Nothing }
-    ensures too_much { result.0 ≡ TOO_MUCH_INPUT → IfSome (I.left input.old) IsTooLong }
-    ensures leads { IfSome (I.left input.old) (λ bytes. LeadsTo bytes result.0) }
-
+    ensures answers { ShowAnswers spec.now (I.left input.old)
+        (O.written out.old) (O.written out.new) result.0 result.1 }
     ensures read_fault { HasStatusCause READ_FAULT
         (I.faults input.old) (I.faults input.new) result.0 }
     ensures write_fault { HasStatusCause WRITE_FAULT
         (O.faults out.old) (O.faults out.new) result.0 }
     ensures stops { LosesAtMost (MOST_SHARD_BYTES + 1) (I.left input.old) (I.left input.new) }
-    ensures statuses { IsOneOf (OK ∷ READ_FAULT ∷ WRITE_FAULT ∷ OUT_OF_MEMORY
-        ∷ TOO_MUCH_INPUT ∷ BAD_FILE ∷ []) result.0 }
 {
     let bytes = match read_to_end(alloc, input, MOST_SHARD_BYTES) {
         Ok(bytes) => bytes,

@@ -21,7 +21,11 @@ pub const OUT_OF_MEMORY: u8 = 5;
 /// The input has more bytes than its limit.
 pub const TOO_MUCH_INPUT: u8 = 6;
 
-/// The input is no shard.
+/// A call of the store failed.
+pub const STORE_FAULT: u8 = 7;
+
+/// A file is not what the command needs: the input of `show` is no shard, or the file that `index`
+/// reads is absent, too long or not indexable.
 pub const BAD_FILE: u8 = 8;
 
 /// The line that is printed on standard error for a status, without its newline. `OK` has none,
@@ -35,6 +39,7 @@ pub fn status_line(status: u8) -> Option<&'static str>
         WRITE_FAULT => Some("gateway: write fault"),
         OUT_OF_MEMORY => Some("gateway: out of memory"),
         TOO_MUCH_INPUT => Some("gateway: too much input"),
+        STORE_FAULT => Some("gateway: store fault"),
         BAD_FILE => Some("gateway: bad file"),
         _ => None,
     }

@@ -1,7 +1,10 @@
 //! The words of a command line.
-ghost use Rattle.std.specs.Prelude.{◌≡◌, IfOk, IsErrOf};
-ghost use Rattle.gateway_tool.specs.Words.{is_option, spec_word, shown_spec};
+ghost use Rattle.std.specs.Prelude.{◌≡◌, true, IfOk, IfSome, IsErrOf};
+ghost use Rattle.channel_store.specs.Names.{is_place};
+ghost use Rattle.std.specs.Option.{option_copied};
+ghost use Rattle.gateway_tool.specs.Words.{is_option, spec_word, shown_spec, indexed_place};
 
+use channel_store::is_place;
 use match_spec::{Spec, SpecRefusal};
 use mp_codec::Text;
 use std::alloc::Global;
@@ -23,6 +26,20 @@ pub(crate) fn shown_spec(alloc: Global, words: &[Text]) -> Result<Spec, WordsRef
     match words {
         [command, word] if command.as_str() == "show" => spec_word(alloc, word.as_str()),
         _ => Err(WordsRefusal::Usage),
+    }
+}
+
+// The place that the words ask to be indexed.
+pub(crate) fn indexed_place(words: &[Text]) -> Option<&str>
+    ensures same { option_copied result ≡ indexed_place words.now }
+    ensures place { IfSome result (λ place. is_place place.now ≡ true) }
+    ensures no_show { IfSome result (λ place. shown_spec words.now ≡ None) }
+{
+    match words {
+        [command, place] if command.as_str() == "index" && is_place(place.as_str()) => {
+            Some(place.as_str())
+        }
+        _ => None,
     }
 }
 

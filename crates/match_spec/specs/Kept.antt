@@ -37,10 +37,17 @@ ends_in_mark text = begins_with_mark (reverse text)
 abbrev pub are_bound : List ℕ → List ℕ → Bool
 are_bound before after = ends_in_mark before || is_operator (last_signs before) || begins_with_mark after
 
+-- whether blanks at a place stay: what stands before them isn't bound to what stands behind them
+abbrev pub blanks_stay : List ℕ → ℕ → Bool
+blanks_stay text n = not (are_bound (drop_blanks (take n text)) (skip_blanks (drop n text)))
+
 -- whether the byte at a place stays: it is no blank, or one that isn't dropped
 abbrev pub stays : List ℕ → ℕ → Bool
-stays text n =
-    not (begins_at space (drop n text)) || not (are_bound (drop_blanks (take n text)) (skip_blanks (drop n text)))
+stays text n = not (begins_at space (drop n text)) || blanks_stay text n
+
+-- whether the blank at a place stays, where one stands there
+abbrev pub blank_at : List ℕ → ℕ → Option Bool
+blank_at text n = if begins_at space (drop n text) then Some (blanks_stay text n) else None
 
 -- the bytes of a text with their places, from a place on
 abbrev pub placed_from : ℕ → List ℕ → List Placed

@@ -90,7 +90,8 @@ pub(crate) fn read_bracket(alloc: Global, inside: Option<Passage<'_>>) -> Result
 
 // The parts of a bracket that isn't empty.
 fn read_entries(alloc: Global, inside: Passage<'_>) -> Result<Parts, SpecRefusal>
-    ensures { Gives (λ p. p) fault_of result (with_entries (entries (passage_in inside.entry)) no_parts) }
+    ensures { Gives (λ p. p) fault_of result
+        (with_entries (entries (passage_in inside.entry)) no_parts) }
 {
     let mut parts = Parts::new();
     let mut left = Some(inside);

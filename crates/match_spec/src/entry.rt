@@ -37,7 +37,8 @@ impl<'a> Entry<'a> {
     #[tactic(auto, unfolding(crate::specs::Bracket::entry_of))]
     pub(crate) fn of(p: Passage<'a>) -> Entry<'a>
         ensures value { entry_in result ≡ entry_of (passage_in p.entry) }
-        ensures shorter { IfSome result.rest (λ rest. length rest.text.now < length p.entry.text.now) }
+        ensures shorter { IfSome result.rest
+            (λ rest. length rest.text.now < length p.entry.text.now) }
     {
         match key_len(p.text) {
             Some(n) => Entry::keyed(p, n),
@@ -54,7 +55,8 @@ impl<'a> Entry<'a> {
         requires { n < length p.text.now }
         ensures value { entry_in result
             ≡ entry_by (passage_in p.entry) (Some n) (is_equals_at (Some n) (passage_in p.entry)) }
-        ensures shorter { IfSome result.rest (λ rest. length rest.text.now < length p.entry.text.now) }
+        ensures shorter { IfSome result.rest
+            (λ rest. length rest.text.now < length p.entry.text.now) }
     {
         let key = p.front(n);
         let follows = p.behind(n + 1);
@@ -71,8 +73,10 @@ impl<'a> Entry<'a> {
 
     // The part with a key and the value that begins here.
     fn valued(key: Passage<'a>, here: Passage<'a>) -> Entry<'a>
-        ensures value { entry_in result ≡ valued_entry (passage_in key.entry) (passage_in here.entry) }
-        ensures shorter { IfSome result.rest (λ rest. length rest.text.now < length here.entry.text.now) }
+        ensures value { entry_in result
+            ≡ valued_entry (passage_in key.entry) (passage_in here.entry) }
+        ensures shorter { IfSome result.rest
+            (λ rest. length rest.text.now < length here.entry.text.now) }
     {
         match opening_quote(here.text) {
             Some(quote) => Entry::quoted(key, here.at, quote, here.behind(1)),
@@ -86,9 +90,11 @@ impl<'a> Entry<'a> {
 
     // The part with a key and a value in quotes: the place of the first one, and what follows it.
     fn quoted(key: Passage<'a>, at: usize, quote: u8, body: Passage<'a>) -> Entry<'a>
-        ensures value { entry_in result ≡ quoted_entry (passage_in key.entry) at (passage_in body.entry)
+        ensures value { entry_in result
+            ≡ quoted_entry (passage_in key.entry) at (passage_in body.entry)
             (position (λ b. b == quote) body.entry.text.now) }
-        ensures shorter { IfSome result.rest (λ rest. length rest.text.now < length body.entry.text.now) }
+        ensures shorter { IfSome result.rest
+            (λ rest. length rest.text.now < length body.entry.text.now) }
     {
         let Some(n) = find(quote, body.text) else {
             return Entry {

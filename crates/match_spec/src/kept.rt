@@ -1,12 +1,12 @@
 //! The version and the build behind a name, without the blanks that don't count.
 
-ghost use Rattle.std.specs.Prelude.{◌≡◌, ◌≤◌, IfOk, length};
+ghost use Rattle.std.specs.Prelude.{◌≡◌, ◌≤◌, IfOk, IfSome, length};
 ghost use Rattle.std.specs.List.{list_all};
 ghost use Rattle.conda_version.specs.Grammar.{is_version_byte};
 ghost use Rattle.conda_version.specs.Leaf.{strip_end, strip_front};
 ghost use Rattle.conda_version.specs.Text.{pair_of};
 ghost use Rattle.gateway_words.specs.Ascii.{asterisk, equals_sign};
-ghost use Rattle.match_spec.specs.Kept.{are_bound, begins_with_mark, bytes_of, ends_in_mark, form_constraint, form_of, is_form_byte, is_form_version, is_operator, is_plain_version, kept as kept_of, last_signs, place_in, place_of_last, stays};
+ghost use Rattle.match_spec.specs.Kept.{are_bound, begins_with_mark, blank_at, blanks_stay, bytes_of, ends_in_mark, form_constraint, form_of, is_form_byte, is_form_version, is_operator, is_plain_version, kept as kept_of, last_signs, place_in, place_of_last};
 ghost use Rattle.match_spec.specs.Signs.{is_mark};
 
 use crate::text::{cut_at, drop_blanks, is_sign, skip_blanks};
@@ -27,9 +27,11 @@ pub(crate) fn kept(alloc: Global, text: &[u8]) -> Result<Vec<Placed>, AllocError
 {
     let mut kept = Vec::new(alloc);
     let mut at = 0;
+    let mut blank = None;
     let mut rest = text;
     'bytes: while let [byte, tail @ ..] = rest {
-        if stays(text, at) {
+        blank = blank_at(text, at, blank);
+        if blank.unwrap_or(true) {
             kept.push(Placed { at, byte: *byte })?;
         }
         at += 1;
@@ -38,13 +40,30 @@ pub(crate) fn kept(alloc: Global, text: &[u8]) -> Result<Vec<Placed>, AllocError
     Ok(kept)
 }
 
-// Whether the byte at a place stays: it is no blank, or one that isn't dropped.
-fn stays(text: &[u8], n: usize) -> bool
+// Whether the blank at a place stays, where one stands there. Blanks in a row all stay or none, so what
+// is known of the one before is taken: each run of blanks is looked at once.
+fn blank_at(text: &[u8], n: usize, known: Option<bool>) -> Option<bool>
+    requires within { n ≤ length text.now }
+    requires known { IfSome known (λ stay. stay ≡ blanks_stay text.now n) }
+    ensures { result ≡ blank_at text.now n }
+{
+    let (_, here) = text.split_at(n);
+    if !matches!(here, [b' ', ..]) {
+        return None;
+    }
+    Some(match known {
+        Some(stay) => stay,
+        None => blanks_stay(text, n),
+    })
+}
+
+// Whether blanks at a place stay.
+fn blanks_stay(text: &[u8], n: usize) -> bool
     requires { n ≤ length text.now }
-    ensures { result ≡ stays text.now n }
+    ensures { result ≡ blanks_stay text.now n }
 {
     let (before, here) = text.split_at(n);
-    !matches!(here, [b' ', ..]) || !are_bound(drop_blanks(before), skip_blanks(here))
+    !are_bound(drop_blanks(before), skip_blanks(here))
 }
 
 // Whether blanks between two texts are dropped.

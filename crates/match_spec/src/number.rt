@@ -100,7 +100,8 @@ fn are_digits(text: &[u8]) -> bool
 fn decimal(digits: &[u8]) -> Option<u64>
     requires { list_all is_ascii_digit digits.now ≡ true }
     ensures { result
-        ≡ (if nat_lt (decimal_from 0 digits.now) (2 ^ 64) then Some (decimal_from 0 digits.now) else None) }
+        ≡ (if nat_lt (decimal_from 0 digits.now) (2 ^ 64)
+        then Some (decimal_from 0 digits.now) else None) }
 {
     let mut number = 0u64;
     let mut rest = digits;

@@ -96,7 +96,8 @@ impl<'a> Passage<'a> {
     // What stands behind the first such byte, if there is one.
     pub(crate) fn beyond(self, mark: u8) -> Option<Passage<'a>>
         ensures value { passage_there result ≡ beyond mark (passage_in self.entry) }
-        ensures shorter { IfSome result (λ rest. length rest.text.now < length self.entry.text.now) }
+        ensures shorter { IfSome result
+            (λ rest. length rest.text.now < length self.entry.text.now) }
     {
         match find(mark, self.text) {
             Some(n) => Some(self.behind(n + 1)),

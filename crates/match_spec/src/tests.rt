@@ -333,6 +333,12 @@ const REFUSED: [(&str, SpecFault); 96] = [
     ("a =>1[version=1]", SpecFault::Version(2)),
 ];
 
+// A spec with all that can stand in one. The bracket's parts take the places of those outside it.
+const WHOLE: &str =
+    "bioconda/linux-64::FOO >=2,<2.1 py* [version='>=1.0a,<1.0|5', build=\"p*\", build_number='>=7', \
+    channel=conda-forge, subdir='linux-64', md5=abababababababababababababababab, \
+    sha256=CDCDCDCDCDCDCDCDCDCDCDCDCDCDCDCDCDCDCDCDCDCDCDCDCDCDCDCDCDCDCDCD, fn='foo, 1.0a.conda']";
+
 fn spec(alloc: Global, text: &str) -> Result<Spec, Fail> {
     match Spec::read(alloc, text) {
         Ok(spec) => Ok(spec),
@@ -394,6 +400,15 @@ fn brackets_match_records(rt: HostRuntime) -> Result<(), Fail> {
     for (text, wanted) in BRACKETS {
         expect_answers(&rt, rt.alloc(), text, wanted)?;
     }
+    Ok(())
+}
+
+// The test in which each allocation is made to fail in turn.
+#[test]
+fn a_whole_spec_matches_its_record(rt: HostRuntime) -> Result<(), Fail> {
+    let spec = spec(rt.alloc(), WHOLE)?;
+    let (bytes, channel, subdir, file) = LISTED[8];
+    assert!(rt; matches(rt.alloc(), &spec, bytes, (channel, subdir, file))?);
     Ok(())
 }
 

@@ -1,9 +1,9 @@
 //! How much input is read.
 ghost use Rattle.std.specs.Prelude.{None};
 
-use crate::tests::ROOM;
+use crate::tests::{ROOM, seen};
 use crate::{bytes_of, show, sink, words_of};
-use gateway_tool::{MOST_SHARD_BYTES, Note, OK, TOO_MUCH_INPUT, run_show};
+use gateway_tool::{MOST_SHARD_BYTES, OK, TOO_MUCH_INPUT, run_show};
 use link_io::{Failed, Source};
 use std::test::Fail;
 
@@ -49,7 +49,7 @@ fn reads_a_shard_up_to_the_limit(rt: HostRuntime) -> Result<(), Fail> {
         };
         let mut out = sink(alloc, ROOM, usize::MAX, &[])?;
         let answer = run_show(alloc, words.as_slice(), &mut input, &mut out);
-        assert_eq!(rt; answer, (status, Note::Nothing), "{size} bytes");
+        assert_eq!(rt; seen(answer), (status, None), "{size} bytes");
     }
     Ok(())
 }
@@ -65,7 +65,7 @@ fn a_source_that_never_ends_is_not_read_past_the_limit(rt: HostRuntime) -> Resul
     };
     let mut out = sink(alloc, ROOM, usize::MAX, &[])?;
     let answer = run_show(alloc, words.as_slice(), &mut input, &mut out);
-    assert_eq!(rt; answer, (TOO_MUCH_INPUT, Note::Nothing));
+    assert_eq!(rt; seen(answer), (TOO_MUCH_INPUT, None));
     assert_eq!(rt; MOST_SHARD_BYTES, 33_554_432);
     assert_eq!(rt; input.given, 33_554_433);
     Ok(())
@@ -77,6 +77,6 @@ fn a_told_input_may_be_too_long_too(rt: HostRuntime) -> Result<(), Fail> {
     let bytes = vec![in alloc; 0x90; 33_554_433]?;
     let mut out = sink(alloc, ROOM, usize::MAX, &[])?;
     let answer = show(alloc, "a", bytes, &mut out)?;
-    assert_eq!(rt; answer, (TOO_MUCH_INPUT, Note::Nothing));
+    assert_eq!(rt; seen(answer), (TOO_MUCH_INPUT, None));
     Ok(())
 }

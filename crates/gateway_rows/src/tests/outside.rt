@@ -1,8 +1,8 @@
 //! Reads and writes that fail or go in small pieces.
 
-use crate::tests::{ONE_FILE, ONE_LINE, ROOM};
+use crate::tests::{ONE_FILE, ONE_LINE, ROOM, seen};
 use crate::{bytes_of, show, sink, source, words_of};
-use gateway_tool::{Note, OK, READ_FAULT, WRITE_FAULT, run_show};
+use gateway_tool::{OK, READ_FAULT, WRITE_FAULT, run_show};
 use std::test::Fail;
 
 #[test]
@@ -19,7 +19,7 @@ fn a_read_that_fails_is_reported_and_nothing_is_written(rt: HostRuntime) -> Resu
         let mut input = source(alloc, bytes_of(alloc, ONE_FILE)?, 40, &[number])?;
         let mut out = sink(alloc, ROOM, usize::MAX, &[])?;
         let answer = run_show(alloc, words.as_slice(), &mut input, &mut out);
-        assert_eq!(rt; answer, (status, Note::Nothing), "read {number}");
+        assert_eq!(rt; seen(answer), (status, None), "read {number}");
         assert_eq!(rt; out.written(), text.as_bytes(), "read {number}");
     }
     Ok(())
@@ -41,7 +41,7 @@ fn a_write_that_fails_leaves_what_was_written(rt: HostRuntime) -> Result<(), Fai
         let piece: usize = piece;
         let mut out = sink(alloc, room, piece.max(1), &[number])?;
         let answer = show(alloc, "a", bytes_of(alloc, ONE_FILE)?, &mut out)?;
-        assert_eq!(rt; answer, (status, Note::Nothing), "room {room}, by {piece}");
+        assert_eq!(rt; seen(answer), (status, None), "room {room}, by {piece}");
         assert_eq!(rt; out.written(), text.as_bytes(), "room {room}, by {piece}");
     }
     Ok(())
@@ -52,6 +52,6 @@ fn no_rows_are_no_write(rt: HostRuntime) -> Result<(), Fail> {
     let alloc = rt.alloc();
     let mut out = sink(alloc, 0, 1, &[0])?;
     let answer = show(alloc, "b", bytes_of(alloc, ONE_FILE)?, &mut out)?;
-    assert_eq!(rt; answer, (OK, Note::Nothing));
+    assert_eq!(rt; seen(answer), (OK, None));
     Ok(())
 }

@@ -1,8 +1,8 @@
 //! Shards and bytes that are none, each with what `show` writes and answers.
 
-use crate::tests::{ONE_FILE, ONE_LINE, ROOM};
+use crate::tests::{ONE_FILE, ONE_LINE, ROOM, seen};
 use crate::{bytes_of, show, sink};
-use gateway_tool::{BAD_FILE, Note, OK};
+use gateway_tool::{BAD_FILE, OK};
 use mp_codec::{FaultKind, FormatFault};
 use std::test::Fail;
 
@@ -10,10 +10,10 @@ use std::test::Fail;
 const EMPTY: &str =
     "83 a8 7061636b61676573 80 ae 7061636b616765732e636f6e6461 80 a7 72656d6f766564 90";
 
-const NO_ROWS: (u8, &str, Note) = (OK, "", Note::Nothing);
+const NO_ROWS: (u8, &str, Option<FormatFault>) = (OK, "", None);
 
-fn refused(at: u64, kind: FaultKind) -> (u8, &'static str, Note) {
-    (BAD_FILE, "", Note::Shard(FormatFault { at, kind }))
+fn refused(at: u64, kind: FaultKind) -> (u8, &'static str, Option<FormatFault>) {
+    (BAD_FILE, "", Some(FormatFault { at, kind }))
 }
 
 #[test]
@@ -35,7 +35,7 @@ fn shows_the_rows_and_refuses_what_is_no_shard(rt: HostRuntime) -> Result<(), Fa
             trailing.as_str(),
             refused(36, FaultKind::Trailing),
         ),
-        ("one file", "A", ONE_FILE, (OK, ONE_LINE, Note::Nothing)),
+        ("one file", "A", ONE_FILE, (OK, ONE_LINE, None)),
         ("one file of another name", "b", ONE_FILE, NO_ROWS),
         (
             "a float and an ext are passed over",
@@ -80,10 +80,10 @@ fn shows_the_rows_and_refuses_what_is_no_shard(rt: HostRuntime) -> Result<(), Fa
             refused(20, FaultKind::Missing),
         ),
     ];
-    for (row, name, hex, (status, text, note)) in rows {
+    for (row, name, hex, (status, text, fault)) in rows {
         let mut out = sink(alloc, ROOM, usize::MAX, &[])?;
         let answer = show(alloc, name, bytes_of(alloc, hex)?, &mut out)?;
-        assert_eq!(rt; answer, (status, note), "{row}");
+        assert_eq!(rt; seen(answer), (status, fault), "{row}");
         assert_eq!(rt; out.written(), text.as_bytes(), "{row}");
     }
     Ok(())

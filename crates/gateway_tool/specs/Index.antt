@@ -1,0 +1,45 @@
+-- What index answers: what became of the store's files, what was written, and the note on a bad file.
+use Rattle.std.specs.Prelude.{◌≡◌, ◌≢◌, ℕ, List, [], ◌∷◌, ◌++◌, Option, Some, IfSome, decimal, codes}
+use Rattle.std.specs.Io.KnownBytes.{append_known}
+use Rattle.gateway_words.specs.Ascii.{newline}
+use Rattle.channel_store.specs.Store.{Files}
+use Rattle.channel_indexer.specs.declared.fault.IndexFault.{IndexFault}
+use Rattle.channel_indexer.specs.declared.index.Summary.{Summary}
+use Rattle.channel_indexer.specs.Store.{stored_fault}
+use Rattle.channel_indexer.specs.Indexing.{IsIndexed, PlaceFault, StopsAt}
+use Rattle.link_io.specs.Transfer.{AppendsPart}
+use Rattle.gateway_tool.specs.declared.note.Note.{Note}
+use Rattle.gateway_tool.specs.declared.note.Note.TheVariants as note
+use Rattle.gateway_tool.specs.declared.status.TheConstants.{OK, WRITE_FAULT, OUT_OF_MEMORY, STORE_FAULT, BAD_FILE}
+use Rattle.gateway_tool.specs.Status.{IsOneOf}
+
+-- the line of a summary
+abbrev pub summary_text : Summary → List ℕ
+summary_text s =
+    (codes "names " ++ decimal s.names) ++ ((codes " files " ++ decimal s.files) ++ ((codes " written " ++ decimal s.written) ++ ((codes " kept " ++ decimal s.kept) ++ newline ∷ [])))
+
+-- a place was indexed, where the store tells its files, and what was written is right for the line of the summary
+pub record Indexes (place : List ℕ) (old new : Option Files) (IsWritten : List ℕ → Type 0) : Type 0 where
+  pub summary : Summary
+  pub indexed : IfSome old (λ told. IsIndexed place told new summary)
+  pub written : IsWritten (summary_text summary)
+
+-- a place can't be indexed by the file that stands there, where the store tells its files, and the note says why
+pub record IsBadPlace (place : List ℕ) (old : Option Files) (said : Note) : Type 0 where
+  pub fault : IndexFault
+  pub stored : stored_fault fault ≡ Some fault
+  pub stands : IfSome old (λ told. PlaceFault place told fault)
+  pub noted : said ≡ note.Indexing fault
+
+-- what index answered, and what became of the store's files and of the output
+pub record IndexAnswers (place : List ℕ) (old new : Option Files) (before now : Option (List ℕ)) (status : ℕ) (said : Note) : Type 0 where
+  -- the files and the line
+  pub answered : status ≡ OK → Indexes place old new (λ text. now ≡ append_known before text)
+  pub part : status ≡ WRITE_FAULT → Indexes place old new (AppendsPart before now)
+  pub silent : status ≢ OK → status ≢ WRITE_FAULT → now ≡ before
+  -- whatever the status is, some puts were made, from the first one on, and nothing else changed
+  pub stop : IfSome old (λ told. StopsAt place told new)
+  -- a bad file
+  pub bad_file : status ≡ BAD_FILE → IsBadPlace place old said
+  pub noted : status ≢ BAD_FILE → said ≡ note.Nothing
+  pub statuses : IsOneOf (OK ∷ WRITE_FAULT ∷ OUT_OF_MEMORY ∷ STORE_FAULT ∷ BAD_FILE ∷ []) status
