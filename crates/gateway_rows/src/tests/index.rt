@@ -85,6 +85,11 @@ fn said(note: &Note) -> &str {
     }
 }
 
+// Whether the note says this.
+fn says(note: &Note, text: &str) -> bool {
+    said(note) == text
+}
+
 #[test]
 fn answers_by_the_file_that_stands_there(rt: HostRuntime) -> Result<(), Fail> {
     let alloc = rt.alloc();
@@ -95,7 +100,7 @@ fn answers_by_the_file_that_stands_there(rt: HostRuntime) -> Result<(), Fail> {
         let mut store = store_with(alloc, file, None)?;
         let answer = run_files(alloc, words.as_slice(), &mut input, &mut out, &mut store);
         assert_eq!(rt; answer.0, status, "{text}{note}");
-        assert_eq!(rt; said(&answer.1), note, "{text}{note}");
+        assert!(rt; says(&answer.1, note), "{text}{note}");
         assert_eq!(rt; out.written(), text.as_bytes(), "{note}");
         assert_eq!(rt; store.file(INDEX).is_some(), status == OK, "{note}");
     }
@@ -129,7 +134,7 @@ fn a_store_that_stops_leaves_no_index_and_nothing_written(rt: HostRuntime) -> Re
         let answer = run_files(alloc, words.as_slice(), &mut input, &mut out, &mut store);
         let status = if stop < 6 { STORE_FAULT } else { OK };
         assert_eq!(rt; answer.0, status, "a stop at call {stop}");
-        assert_eq!(rt; said(&answer.1), "", "a stop at call {stop}");
+        assert!(rt; says(&answer.1, ""), "a stop at call {stop}");
         assert_eq!(rt; out.written().is_empty(), stop < 6, "a stop at call {stop}");
         assert_eq!(rt;
             store.file(INDEX).is_some(),
