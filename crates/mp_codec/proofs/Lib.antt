@@ -19,3 +19,4 @@ pub mod WritingLemmas
 pub mod WrittenLemmas
 pub mod AppendLemmas
 pub mod ShortestLemmas
+pub mod SpanLemmas

@@ -6,5 +6,6 @@ pub mod Fault
 pub mod Reading
 pub mod Maps
 pub mod Keys
+pub mod Span
 pub use Rattle.gateway_words.specs.Places
 pub use Rattle.gateway_words.specs.Reading as Readings

@@ -1,0 +1,107 @@
+-- The text of a str stands in the bytes that its value lies in, just before the position behind the value.
+use Rattle.std.proofs.Common.{◌≡◌, refl, sym, ◌∙◌, ap, subst, ℕ, suc, ◌+◌, ◌-◌, ◌≤◌, Bool, true, ◌&&◌, List, [], ◌++◌, length, take, drop, arith, length-append, append_assoc, append-nil}
+use Rattle.std.specs.Prelude.{Ok, Option, Some, None, nat_le, slice_range, if◌then◌else◌}
+use Rattle.std.specs.Str.{is_utf8}
+use Rattle.std.proofs.lemmas.Bool.{le-leb}
+use Rattle.std.proofs.lemmas.List.{drop-drop, length-drop}
+use Rattle.std.proofs.Math.Seq.{drop-append_seam, take-append_seam}
+use Rattle.gateway_words.specs.Places.{Position, Between}
+use Rattle.mp_codec.specs.declared.head.Head.{Head}
+use Rattle.mp_codec.specs.declared.head.Head.TheVariants as head
+use Rattle.mp_codec.specs.declared.span.Span.{Span}
+use Rattle.mp_codec.specs.Value.{Value, value, Values, none, more, count, str_of}
+use Rattle.mp_codec.specs.Spelling.{Lies}
+use Rattle.mp_codec.specs.Fault.{TextFault}
+use Rattle.mp_codec.specs.Maps.{text_from}
+use Rattle.mp_codec.specs.Span.{IsIn, text_or_none, text_at}
+use Rattle.mp_codec.proofs.LeafLemmas.{IsText, text_judged}
+use Rattle.mp_codec.proofs.JudgingLemmas.{Reads}
+use Rattle.mp_codec.proofs.ReaderLemmas.{judged_reads}
+
+-- a position behind one that is in some bytes is in them too
+pub between_in : (bytes s : List ℕ) (here there : Position) → IsIn bytes here → Between s here there → IsIn bytes there
+between_in bytes s here there i b =
+    let at : there.at ≡ here.at + length s = b.at in
+    let within : here.at ≤ length bytes = i.within in
+    let long : length here.left ≡ length bytes - here.at = ap length i.left ∙ length-drop here.at bytes in
+    let parts : length here.left ≡ length (s ++ there.left) = ap length b.left in
+    record {
+      within = omega (arith, length-append s there.left);
+      left = sym (drop-append_seam s there.left) ∙ ap (drop (length s)) (sym b.left ∙ i.left) ∙ drop-drop (length s) here.at bytes ∙ ap (λ (k : ℕ). drop k bytes) (sym at);
+    }
+
+-- where a value lies in some bytes, the position behind it is in them too
+pub lies_in : (bytes : List ℕ) (v : Value) (here there : Position) → IsIn bytes here → Lies v here there → IsIn bytes there
+lies_in bytes v here there i l = between_in bytes l.bytes here there i l.between
+
+-- these bytes stand before a position, up to it
+pub record StandsBefore (bytes text : List ℕ) (there : Position) : Type 0 where
+  pub fits : length text ≤ there.at
+  pub within : there.at ≤ length bytes
+  pub are : slice_range bytes (there.at - length text) there.at ≡ text
+
+-- the last bytes between two positions stand before the second
+between_before : (bytes front text : List ℕ) (here there : Position) → IsIn bytes here → Between (front ++ text) here there → StandsBefore bytes text there
+between_before bytes front text here there i b =
+    let after : IsIn bytes there = between_in bytes (front ++ text) here there i b in
+    let at : there.at ≡ here.at + length (front ++ text) = b.at in
+    let len : length (front ++ text) ≡ length front + length text = length-append front text in
+    let start : there.at - length text ≡ here.at + length front = omega arith in
+    let size : there.at - (there.at - length text) ≡ length text = omega arith in
+    let rest : drop (there.at - length text) bytes ≡ text ++ there.left =
+    ap (λ (k : ℕ). drop k bytes) start ∙ sym (drop-drop (length front) here.at bytes) ∙ ap (drop (length front)) (sym i.left ∙ b.left ∙ append_assoc front text there.left)
+    ∙ drop-append_seam front (text ++ there.left) in
+    record {
+      fits = omega arith;
+      within = after.within;
+      are = ap (λ (k : ℕ). take k (drop (there.at - length text) bytes)) size ∙ ap (take (length text)) rest ∙ take-append_seam text there.left;
+    }
+
+-- a value with the head of a str has no parts
+str_alone : (bytes text payload : List ℕ) (n : ℕ) (parts : Values) (here there : Position) → IsIn bytes here → Lies (value (head.Str n) payload parts) here there → payload ≡ text → StandsBefore bytes text there
+str_alone bytes text payload n none here there i l same =
+    let all : l.bytes ≡ l.spelled.0 ++ text =
+    l.spelled.4 ∙ ap (λ (t : List ℕ). l.spelled.0 ++ (payload ++ t)) l.spelled.3 ∙ ap (λ (t : List ℕ). l.spelled.0 ++ t) (append-nil payload ∙ same) in
+    between_before bytes l.spelled.0 text here there i (subst (λ (t : List ℕ). Between t here there) all l.between)
+str_alone bytes text payload n (more v vs) here there i l same = absurd (let counted : suc (count vs) ≡ 0 = l.spelled.2.part_count in omega arith)
+
+-- the bytes of a str stand before the position behind it
+pub str_before : (bytes text : List ℕ) (v : Value) (here there : Position) → IsIn bytes here → Lies v here there → str_of v ≡ Some text → StandsBefore bytes text there
+str_before bytes text (value (head.Str n) payload parts) here there i l is = str_alone bytes text payload n parts here there i l (cc)
+str_before bytes text (value head.Nil payload parts) here there i l is = absurd (cc)
+str_before bytes text (value (head.Bool b) payload parts) here there i l is = absurd (cc)
+str_before bytes text (value (head.Int n) payload parts) here there i l is = absurd (cc)
+str_before bytes text (value head.Float payload parts) here there i l is = absurd (cc)
+str_before bytes text (value (head.Bin n) payload parts) here there i l is = absurd (cc)
+str_before bytes text (value (head.Array n) payload parts) here there i l is = absurd (cc)
+str_before bytes text (value (head.Map n) payload parts) here there i l is = absurd (cc)
+str_before bytes text (value (head.Ext n) payload parts) here there i l is = absurd (cc)
+
+-- the span of the last bytes before a position
+abbrev pub span_before : ℕ → Position → Span
+span_before len there = record { start = there.at - len; end = there.at }
+
+-- bytes that stand before a position are at their span
+pub before_at : (bytes text : List ℕ) (there : Position) → StandsBefore bytes text there → is_utf8 text ≡ true → text_at bytes (span_before (length text) there) ≡ text
+unfolding text_at
+before_at bytes text there s u =
+    let fits : length text ≤ there.at = s.fits in
+    let start : nat_le (there.at - length text) there.at ≡ true = le-leb (there.at - length text) there.at (omega arith) in
+    let end : nat_le there.at (length bytes) ≡ true = le-leb there.at (length bytes) s.within in
+    let part : List ℕ = slice_range bytes (there.at - length text) there.at in
+    ap (λ (b : Bool). text_or_none (if b && nat_le there.at (length bytes) then Some part else None)) start
+    ∙ ap (λ (b : Bool). text_or_none (if b then Some part else None)) end
+    ∙ ap (λ (t : List ℕ). text_or_none (Some t)) s.are
+    ∙ ap (λ (b : Bool). if b then text else []) u
+
+-- a text that was read is at the span before the position behind it
+pub text_spans : (bytes text : List ℕ) (here there : Position) → IsIn bytes here → text_from here ≡ Ok (text, there) → text_at bytes (span_before (length text) there) ≡ text
+text_spans bytes text here there i e =
+    let r : Reads TextFault IsText here text there = judged_reads TextFault IsText here (text_from here) (text_judged here) text there e in
+    before_at bytes text there (str_before bytes text r.value here there i r.lies r.means.0) r.means.1
+
+-- and the position is in the bytes
+pub text_in : (bytes text : List ℕ) (here there : Position) → IsIn bytes here → text_from here ≡ Ok (text, there) → IsIn bytes there
+text_in bytes text here there i e =
+    let r : Reads TextFault IsText here text there = judged_reads TextFault IsText here (text_from here) (text_judged here) text there e in
+    lies_in bytes r.value here there i r.lies
