@@ -5,6 +5,7 @@ ghost use Rattle.gateway_words.specs.Places.{Position, Between, start_of};
 ghost use Rattle.mp_codec.specs.declared.head.Head.{Head};
 ghost use Rattle.mp_codec.specs.declared.fault.FormatFault.{FormatFault};
 ghost use Rattle.mp_codec.specs.Value.{Value};
+ghost use Rattle.mp_codec.specs.Span.{IsIn};
 ghost use Rattle.mp_codec.specs.Spelling.{HeadLies, Lies, Breaks, short};
 ghost use Rattle.mp_codec.specs.Reading.{Steps, Passes, NodePasses, head_fault, head_from, bytes_from, node_from, values_from};
 
@@ -15,19 +16,19 @@ use std::marker::Model;
 /// A place in some bytes. Contracts see the place and the bytes from there on.
 #[derive(Drop)]
 pub struct Cursor<'a> {
-    rest: &'a [u8],
+    bytes: &'a [u8],
     at: usize,
 }
 
 impl<'a> Model for Cursor<'a> {
-    ghost use Rattle.std.specs.Prelude.{◌<◌, ◌+◌, ◌^◌, length};
+    ghost use Rattle.std.specs.Prelude.{◌≤◌, length, drop};
     ghost use Rattle.gateway_words.specs.Places.{Position};
 
     ghost Value = { Position };
 
-    ghost view = { λ cursor. record { at = cursor.at; left = cursor.rest.now } };
+    ghost view = { λ cursor. record { at = cursor.at; left = drop cursor.at cursor.bytes.now } };
 
-    ghost invariant = { λ cursor. cursor.at + length cursor.rest.now < 2 ^ 64 };
+    ghost invariant = { λ cursor. cursor.at ≤ length cursor.bytes.now };
 }
 
 impl<'a> Cursor<'a> {
@@ -35,7 +36,7 @@ impl<'a> Cursor<'a> {
     pub fn new(bytes: &'a [u8]) -> Cursor<'a>
         ensures { result ≡ start_of bytes.now }
     {
-        Cursor { rest: bytes, at: 0 }
+        Cursor { bytes, at: 0 }
     }
 
     /// A second cursor at the same place.
@@ -44,9 +45,24 @@ impl<'a> Cursor<'a> {
         ensures small { self.now.at + length self.now.left < 2 ^ 64 }
     {
         Cursor {
-            rest: self.rest,
+            bytes: self.bytes,
             at: self.at,
         }
+    }
+
+    /// The bytes that the cursor goes over, from their start.
+    pub fn bytes(&self) -> &'a [u8]
+        ensures { IsIn result.now self.now }
+    {
+        self.bytes
+    }
+
+    // The bytes from the cursor on.
+    #[inline(always)]
+    fn rest(&self) -> &'a [u8]
+        ensures { result.now ≡ self.now.left }
+    {
+        &self.bytes[self.at..]
     }
 
     /// The place, in bytes from 0.
@@ -60,7 +76,7 @@ impl<'a> Cursor<'a> {
     pub fn is_end(&self) -> bool
         ensures { result ≡ (length self.now.left == 0) }
     {
-        self.rest.is_empty()
+        self.at == self.bytes.len()
     }
 
     /// The head of the next value: its family, with its number, its length or the number of its
@@ -164,9 +180,8 @@ impl<'a> Cursor<'a> {
     fn next_head(&mut self) -> Result<Head, FormatFault>
         ensures { Steps (λ head. head) self.old self.new result (head_from self.old) }
     {
-        match head_in(self.rest) {
+        match head_in(self.rest()) {
             Ok((head, len)) => {
-                self.rest = &self.rest[len..];
                 self.at += len;
                 Ok(head)
             }
@@ -179,13 +194,13 @@ impl<'a> Cursor<'a> {
     fn next_bytes(&mut self, len: usize) -> Result<&'a [u8], FormatFault>
         ensures { Steps (λ taken. taken.now) self.old self.new result (bytes_from len self.old) }
     {
-        if self.rest.len() < len {
-            return Err(self.short());
+        match self.rest().get(..len) {
+            Some(taken) => {
+                self.at += len;
+                Ok(taken)
+            }
+            None => Err(self.short()),
         }
-        let (taken, rest) = self.rest.split_at(len);
-        self.rest = rest;
-        self.at += len;
-        Ok(taken)
     }
 
     // The fault of a head that begins here.
@@ -212,7 +227,7 @@ impl<'a> Cursor<'a> {
         ensures { result ≡ short self.now }
     {
         FormatFault {
-            at: (self.at + self.rest.len()) as u64,
+            at: self.bytes.len() as u64,
             kind: FaultKind::Short,
         }
     }
