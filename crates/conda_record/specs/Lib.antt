@@ -1,6 +1,7 @@
 pub mod Texts
 pub mod Digests
 pub mod Record
+pub mod Spans
 pub mod View
 pub mod Reading
 pub mod Json

@@ -1,11 +1,14 @@
 -- Reading a record from a position: its known keys in the order of `record_keys`, and how the value of each is read.
-use Rattle.std.specs.Prelude.{ℕ, List, [], ◌∷◌, Option, Some, None, unwrap_or, Ok, slice_index_or}
+use Rattle.std.specs.Prelude.{ℕ, List, [], ◌∷◌, map, Option, Some, None, unwrap_or, Ok, slice_index_or}
+use Rattle.std.specs.Option.{option_map}
 use Rattle.std.specs.declared.alloc.Global.{Global}
 use Rattle.std.specs.declared.vec.Vec.{Vec}
 use Rattle.gateway_words.specs.Places.{Position}
 use Rattle.gateway_words.specs.Reading.{◌>>=◌}
 use Rattle.mp_codec.specs.declared.fault.FormatFault.{FormatFault}
 use Rattle.mp_codec.specs.Maps.{Read, entries_from, map_from, text_from, number_from, str_from, unread, known_key_from, known_value_from, known_end_from}
+use Rattle.mp_codec.specs.declared.span.Span.{Span}
+use Rattle.mp_codec.specs.Span.{text_at}
 use Rattle.conda_record.specs.declared.refusal.RecordRefusal.{RecordRefusal}
 use Rattle.conda_record.specs.declared.refusal.RecordRefusal.TheVariants as refusal
 use Rattle.conda_record.specs.declared.reading.Key.{Key}
@@ -88,18 +91,20 @@ abbrev pub datum_in : {X : Type 0} → (X → Datum) → Option X → Option Dat
 datum_in datum (Some x) = Some (datum x)
 datum_in datum None = None
 
--- the texts of a list
-abbrev pub texts_seen : Option (Vec (List ℕ) Global) → Option (List (List ℕ))
-texts_seen (Some v) = Some v.items
-texts_seen None = None
+-- the texts at the spans of a list
+abbrev pub texts_seen : List ℕ → Option (Vec Span Global) → Option (List (List ℕ))
+texts_seen bytes (Some v) = Some (map (text_at bytes) v.items)
+texts_seen bytes None = None
 
--- what was found, by the places of the keys
-abbrev pub known : Found → List (Option Datum)
-known found =
-    datum_in Text found.name ∷ datum_in Text found.version ∷ datum_in Text found.build ∷ datum_in Number found.build_number
-    ∷ datum_in (λ ts. Texts (texts_seen ts)) found.depends ∷ datum_in (λ ts. Texts (texts_seen ts)) found.constrains
-    ∷ datum_in OptionalText found.subdir ∷ datum_in Digest found.md5 ∷ datum_in Digest found.sha256
-    ∷ datum_in Number found.size ∷ datum_in Number found.timestamp ∷ datum_in OptionalText found.license ∷ datum_in OptionalText found.noarch ∷ []
+-- what was found, by the places of the keys, each text as it stands in these bytes
+abbrev pub known : List ℕ → Found → List (Option Datum)
+known bytes found =
+    datum_in (λ s. Text (text_at bytes s)) found.name ∷ datum_in (λ s. Text (text_at bytes s)) found.version
+    ∷ datum_in (λ s. Text (text_at bytes s)) found.build ∷ datum_in Number found.build_number
+    ∷ datum_in (λ ts. Texts (texts_seen bytes ts)) found.depends ∷ datum_in (λ ts. Texts (texts_seen bytes ts)) found.constrains
+    ∷ datum_in (λ s. OptionalText (option_map (text_at bytes) s)) found.subdir ∷ datum_in Digest found.md5 ∷ datum_in Digest found.sha256
+    ∷ datum_in Number found.size ∷ datum_in Number found.timestamp
+    ∷ datum_in (λ s. OptionalText (option_map (text_at bytes) s)) found.license ∷ datum_in (λ s. OptionalText (option_map (text_at bytes) s)) found.noarch ∷ []
 
 -- ---- the record of what was read
 

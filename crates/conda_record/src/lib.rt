@@ -6,11 +6,13 @@
 //! (`specs/Writing`).
 #![tactic(auto)]
 
+mod copying;
 mod json;
 mod laws;
 mod reading;
 mod record;
 mod refusal;
+mod spans;
 #[cfg(test)]
 mod tests;
 mod value;
@@ -21,4 +23,5 @@ pub use json::JsonRefusal;
 pub use laws::a_written_record_is_read;
 pub use record::PackageRecord;
 pub use refusal::RecordRefusal;
+pub use spans::RecordSpans;
 pub use view::RecordView;

@@ -1,19 +1,21 @@
-//! Reading a record from a cursor, key by key.
+//! Reading the spans of a record from a cursor, key by key.
 
-ghost use Rattle.std.specs.Prelude.{◌≡◌, IfOk, IfErr, IfSome, OnErr, MatchResult, Some, None, is_some, slice_index_or, true};
+ghost use Rattle.std.specs.Prelude.{◌≡◌, List, ℕ, IfOk, IfErr, IfSome, OnErr, MatchResult, Some, None, is_some, slice_index_or, true};
 ghost use Rattle.std.specs.List.{list_all};
 ghost use Rattle.gateway_words.specs.Places.{Position};
 ghost use Rattle.gateway_words.specs.Reading.{Gives};
 ghost use Rattle.mp_codec.specs.Fault.{IsFirstFault, WithBreaks};
 ghost use Rattle.mp_codec.specs.Reading.{Advances};
+ghost use Rattle.mp_codec.specs.Span.{IsIn};
 ghost use Rattle.mp_codec.specs.Maps.{bytes_behind, place_of, unread, known_key_from, known_value_from};
+ghost use Rattle.conda_record.specs.Spans.{fields_at};
 ghost use Rattle.conda_record.specs.Record.{Fields, record_keys, RecordFault, RecordAt};
 ghost use Rattle.conda_record.specs.Reading.{fault_of, place, known, datum_from, end_from, pairs_from, record_from};
 
-use crate::record::PackageRecord;
 use crate::refusal::RecordRefusal;
-use crate::value::{digest_or_skip, text_or_skip, texts_or_skip};
-use mp_codec::{Cursor, FaultKind, FormatFault, Text};
+use crate::spans::RecordSpans;
+use crate::value::{digest_or_skip, span_or_skip, spans_or_skip};
+use mp_codec::{Cursor, FaultKind, FormatFault, Span};
 use std::alloc::Global;
 
 // A key of a record.
@@ -39,19 +41,19 @@ enum Key {
 // What was read so far: of each key what stands behind it, or None where the key was not met.
 #[derive(Drop)]
 struct Found {
-    name: Option<Text>,
-    version: Option<Text>,
-    build: Option<Text>,
+    name: Option<Span>,
+    version: Option<Span>,
+    build: Option<Span>,
     build_number: Option<Option<u64>>,
-    depends: Option<Option<Vec<Text>>>,
-    constrains: Option<Option<Vec<Text>>>,
-    subdir: Option<Option<Text>>,
+    depends: Option<Option<Vec<Span>>>,
+    constrains: Option<Option<Vec<Span>>>,
+    subdir: Option<Option<Span>>,
     md5: Option<Option<[u8; 16]>>,
     sha256: Option<Option<[u8; 32]>>,
     size: Option<Option<u64>>,
     timestamp: Option<Option<u64>>,
-    license: Option<Option<Text>>,
-    noarch: Option<Option<Text>>,
+    license: Option<Option<Span>>,
+    noarch: Option<Option<Span>>,
 }
 
 // The known key with these bytes.
@@ -95,7 +97,8 @@ fn key_of(key: Option<&[u8]>) -> Key
 impl Found {
     // Nothing was read.
     fn new() -> Found
-        ensures { known result ≡ unread record_keys }
+        ghost bytes: { List ℕ }
+        ensures { known bytes result ≡ unread record_keys }
     {
         Found {
             name: None,
@@ -116,7 +119,8 @@ impl Found {
 
     // Whether this key was read.
     fn has(&self, key: Key) -> bool
-        ensures { result ≡ is_some (slice_index_or (known self.now) (place key) None) }
+        ghost bytes: { List ℕ }
+        ensures { result ≡ is_some (slice_index_or (known bytes self.now) (place key) None) }
     {
         match key {
             Key::Name => self.name.is_some(),
@@ -144,23 +148,25 @@ impl Found {
         cur: &mut Cursor<'_>,
         key: Key,
     ) -> Result<(), RecordRefusal>
-        ensures { Gives (λ _. (known self.new, cur.new)) fault_of result
-            (known_value_from record_keys datum_from (known self.old) (place key) cur.old) }
+        ghost bytes: { List ℕ }
+        requires { IsIn bytes cur.old }
+        ensures { Gives (λ _. (known bytes self.new, cur.new)) fault_of result (known_value_from
+            record_keys datum_from (known bytes self.old) (place key) cur.old) }
     {
         match key {
-            Key::Name => self.name = Some(Text::copy(alloc, cur.text()?)?),
-            Key::Version => self.version = Some(Text::copy(alloc, cur.text()?)?),
-            Key::Build => self.build = Some(Text::copy(alloc, cur.text()?)?),
+            Key::Name => self.name = Some(cur.text_span()?),
+            Key::Version => self.version = Some(cur.text_span()?),
+            Key::Build => self.build = Some(cur.text_span()?),
             Key::BuildNumber => self.build_number = Some(cur.number_or_skip()?),
-            Key::Depends => self.depends = Some(texts_or_skip(alloc, cur)?),
-            Key::Constrains => self.constrains = Some(texts_or_skip(alloc, cur)?),
-            Key::Subdir => self.subdir = Some(text_or_skip(alloc, cur)?),
+            Key::Depends => self.depends = Some(spans_or_skip(alloc, cur)?),
+            Key::Constrains => self.constrains = Some(spans_or_skip(alloc, cur)?),
+            Key::Subdir => self.subdir = Some(span_or_skip(cur)?),
             Key::Md5 => self.md5 = Some(digest_or_skip(cur)?),
             Key::Sha256 => self.sha256 = Some(digest_or_skip(cur)?),
             Key::Size => self.size = Some(cur.number_or_skip()?),
             Key::Timestamp => self.timestamp = Some(cur.number_or_skip()?),
-            Key::License => self.license = Some(text_or_skip(alloc, cur)?),
-            Key::Noarch => self.noarch = Some(text_or_skip(alloc, cur)?),
+            Key::License => self.license = Some(span_or_skip(cur)?),
+            Key::Noarch => self.noarch = Some(span_or_skip(cur)?),
             Key::Other => cur.skip()?,
         }
         Ok(())
@@ -168,8 +174,10 @@ impl Found {
 
     // The record, where the required keys were read.
     #[tactic(auto, unfolding(mp_codec::specs::Maps::known_end_from, crate::specs::Reading::end_from))]
-    fn finish(self, alloc: Global, cur: &Cursor<'_>) -> Result<PackageRecord, FormatFault>
-        ensures { Advances (λ r. r) cur.now result (end_from (known self) cur.now) }
+    fn finish(self, alloc: Global, cur: &Cursor<'_>) -> Result<RecordSpans, FormatFault>
+        ghost bytes: { List ℕ }
+        ensures { Advances (fields_at bytes) cur.now result
+            (end_from (known bytes self) cur.now) }
     {
         let (Some(name), Some(version), Some(build)) = (self.name, self.version, self.build) else {
             return Err(FormatFault {
@@ -177,7 +185,7 @@ impl Found {
                 kind: FaultKind::Missing,
             });
         };
-        Ok(PackageRecord {
+        Ok(RecordSpans {
             name,
             version,
             build,
@@ -198,7 +206,9 @@ impl Found {
 // The key that stands at the cursor, which was not read before if it is known.
 #[tactic(auto, unfolding(mp_codec::specs::Maps::known_key_from))]
 fn next_key(cur: &mut Cursor<'_>, found: &Found) -> Result<Key, FormatFault>
-    ensures { Advances place cur.new result (known_key_from record_keys (known found.now) cur.old) }
+    ghost bytes: { List ℕ }
+    ensures { Advances place cur.new result
+        (known_key_from record_keys (known bytes found.now) cur.old) }
 {
     let at = cur.at();
     let key = key_of(cur.str_or_skip()?);
@@ -216,8 +226,10 @@ fn pairs_of_record(
     alloc: Global,
     cur: &mut Cursor<'_>,
     pairs: u32,
-) -> Result<PackageRecord, RecordRefusal>
-    ensures { Gives (λ r. (r, cur.new)) fault_of result
+) -> Result<RecordSpans, RecordRefusal>
+    ghost bytes: { List ℕ }
+    requires { IsIn bytes cur.old }
+    ensures { Gives (λ r. (fields_at bytes r, cur.new)) fault_of result
         (pairs_from pairs (unread record_keys) cur.old) }
 {
     let mut found = Found::new();
@@ -230,34 +242,38 @@ fn pairs_of_record(
 
 // The record that stands at the cursor.
 #[tactic(auto, unfolding(mp_codec::specs::Maps::map_from, crate::specs::Reading::record_from))]
-fn record_here(alloc: Global, cur: &mut Cursor<'_>) -> Result<PackageRecord, RecordRefusal>
-    ensures { Gives (λ r. (r, cur.new)) fault_of result (record_from cur.old) }
+fn record_here(alloc: Global, cur: &mut Cursor<'_>) -> Result<RecordSpans, RecordRefusal>
+    ghost bytes: { List ℕ }
+    requires { IsIn bytes cur.old }
+    ensures { Gives (λ r. (fields_at bytes r, cur.new)) fault_of result (record_from cur.old) }
 {
     let pairs = cur.map_len()?;
     pairs_of_record(alloc, cur, pairs)
 }
 
-impl PackageRecord {
-    /// The record that stands at the cursor, which goes behind it.
+impl RecordSpans {
+    /// The spans of the record that stands at the cursor, which goes behind it. Contracts see its
+    /// fields in the bytes that the cursor goes over.
     ///
-    /// `Fault` with the first fault that stands in it: a value that breaks off, a record that is no
-    /// map, a required key that is missing or whose value is no text, a known key that stands twice.
-    /// Places are counted from the start of the cursor's bytes; what follows the record is no fault.
-    /// `Memory` where memory runs out. After a refusal the cursor has not moved.
-    /// (CEP 16, "package records"; `docs/FORMATS.md`, "Package records".)
-    pub fn read(alloc: Global, cur: &mut Cursor<'_>) -> Result<PackageRecord, RecordRefusal>
+    /// Refuses as `PackageRecord::read` does. Texts are not copied.
+    pub fn read(alloc: Global, cur: &mut Cursor<'_>) -> Result<RecordSpans, RecordRefusal>
+        ghost bytes: { List ℕ }
+        requires { IsIn bytes cur.old }
+
         // What is read stands there, and nothing is wrong with it.
-        ensures found { IfOk result (λ r. RecordAt cur.old r cur.new) }
+        ensures found { IfOk result (λ r. RecordAt cur.old (fields_at bytes r) cur.new) }
         // What stands there with nothing wrong is read, unless memory runs out.
         ensures only { (fields : Fields) (there : Position) → RecordAt cur.old fields there
-            → MatchResult result (λ r. (r ≡ fields) × (cur.new ≡ there))
+            → MatchResult result (λ r. (fields_at bytes r ≡ fields) × (cur.new ≡ there))
             (λ e. e ≡ RecordRefusal.Memory) }
         // A fault is the first one.
         ensures fault { IfErr result (λ e.
             IfSome (fault_of e) (IsFirstFault (WithBreaks RecordFault cur.old))) }
         ensures unchanged { OnErr result (cur.new ≡ cur.old) }
+        ensures within { IsIn bytes cur.new }
 
-        ensures exact { Gives (λ r. (r, cur.new)) fault_of result (record_from cur.old) }
+        ensures exact { Gives (λ r. (fields_at bytes r, cur.new)) fault_of result
+            (record_from cur.old) }
     {
         let mut ahead = cur.copy();
         let record = record_here(alloc, &mut ahead)?;

@@ -1,49 +1,49 @@
 //! Reading the values of a record's keys by their kinds.
 
-ghost use Rattle.std.specs.Prelude.{◌≡◌, ◌==◌, if◌then◌else◌, length, Some, None, IfSome, MatchOption};
+ghost use Rattle.std.specs.Prelude.{◌≡◌, ◌==◌, if◌then◌else◌, List, ℕ, length, map, Some, None, IfSome, MatchOption};
 ghost use Rattle.std.specs.Option.{option_map};
 ghost use Rattle.gateway_words.specs.Reading.{Gives};
 ghost use Rattle.mp_codec.specs.Reading.{Advances};
+ghost use Rattle.mp_codec.specs.Span.{IsIn, text_at};
 ghost use Rattle.conda_record.specs.Texts.{texts_at, texts_from};
 ghost use Rattle.conda_record.specs.Digests.{digest_from};
 ghost use Rattle.conda_record.specs.Reading.{fault_of, optional_text_from, texts_seen};
 
 use crate::refusal::RecordRefusal;
 use hex::FromHex;
-use mp_codec::{Cursor, FormatFault, Head, Text, utf8_text};
+use mp_codec::{Cursor, FormatFault, Head, Span, utf8_text};
 use std::alloc::Global;
 
-// A copy of the text that stands at the cursor, or None of a value of another kind.
+// The span of the text that stands at the cursor, or None of a value of another kind.
 #[tactic(auto, unfolding(crate::specs::Reading::optional_text_from))]
-pub(crate) fn text_or_skip(
-    alloc: Global,
-    cur: &mut Cursor<'_>,
-) -> Result<Option<Text>, RecordRefusal>
-    ensures { Gives (λ text. (text, cur.new)) fault_of result (optional_text_from cur.old) }
+pub(crate) fn span_or_skip(cur: &mut Cursor<'_>) -> Result<Option<Span>, FormatFault>
+    ghost bytes: { List ℕ }
+    requires { IsIn bytes cur.old }
+    ensures { Advances (option_map (text_at bytes)) cur.new result (optional_text_from cur.old) }
 {
-    let Some(bytes) = cur.str_or_skip()? else {
+    let Some(text) = cur.str_or_skip()? else {
         return Ok(None);
     };
-    match utf8_text(bytes) {
-        Some(text) => Ok(Some(Text::copy(alloc, text)?)),
-        None => Ok(None),
-    }
+    Ok(utf8_text(text).map(|text| cur.span_before(text.len())))
 }
 
-// Copies of the texts of the list that stands at the cursor, or None of a value of another kind.
+// The spans of the texts of the list that stands at the cursor, or None of a value of another kind.
 #[tactic(auto, unfolding(crate::specs::Texts::texts_from))]
-pub(crate) fn texts_or_skip(
+pub(crate) fn spans_or_skip(
     alloc: Global,
     cur: &mut Cursor<'_>,
-) -> Result<Option<Vec<Text>>, RecordRefusal>
-    ensures { Gives (λ texts. (texts_seen texts, cur.new)) fault_of result (texts_from cur.old) }
+) -> Result<Option<Vec<Span>>, RecordRefusal>
+    ghost bytes: { List ℕ }
+    requires { IsIn bytes cur.old }
+    ensures { Gives (λ spans. (texts_seen bytes spans, cur.new)) fault_of result
+        (texts_from cur.old) }
 {
     let mut ahead = cur.copy();
     if let Head::Array(len) = ahead.head()? {
-        match texts(alloc, &mut ahead, len) {
-            Ok(texts) => {
+        match spans(alloc, &mut ahead, len) {
+            Ok(spans) => {
                 *cur = ahead;
-                return Ok(Some(texts));
+                return Ok(Some(spans));
             }
             Err(RecordRefusal::Memory) => return Err(RecordRefusal::Memory),
             Err(RecordRefusal::Fault(_)) => {}
@@ -53,15 +53,18 @@ pub(crate) fn texts_or_skip(
     Ok(None)
 }
 
-// Copies of so many texts.
-fn texts(alloc: Global, cur: &mut Cursor<'_>, len: u32) -> Result<Vec<Text>, RecordRefusal>
-    ensures { Gives (λ texts. (texts.items, cur.new)) fault_of result (texts_at len cur.old) }
+// The spans of so many texts.
+fn spans(alloc: Global, cur: &mut Cursor<'_>, len: u32) -> Result<Vec<Span>, RecordRefusal>
+    ghost bytes: { List ℕ }
+    requires { IsIn bytes cur.old }
+    ensures { Gives (λ spans. (map (text_at bytes) spans.items, cur.new)) fault_of result
+        (texts_at len cur.old) }
 {
-    let mut texts = Vec::new(alloc);
+    let mut spans = Vec::new(alloc);
     for _ in 0..len {
-        texts.push(Text::copy(alloc, cur.text()?)?)?;
+        spans.push(cur.text_span()?)?;
     }
-    Ok(texts)
+    Ok(spans)
 }
 
 // The digest that stands at the cursor, as bytes or as hexadecimal digits, or None of a value of

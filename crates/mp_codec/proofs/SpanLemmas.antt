@@ -1,19 +1,23 @@
 -- The text of a str stands in the bytes that its value lies in, just before the position behind the value.
 use Rattle.std.proofs.Common.{◌≡◌, refl, sym, ◌∙◌, ap, subst, ℕ, suc, ◌+◌, ◌-◌, ◌≤◌, Bool, true, ◌&&◌, List, [], ◌++◌, length, take, drop, arith, length-append, append_assoc, append-nil}
-use Rattle.std.specs.Prelude.{Ok, Option, Some, None, nat_le, slice_range, if◌then◌else◌}
+use Rattle.std.specs.Prelude.{Result, Ok, Err, Option, Some, None, nat_le, slice_range, if◌then◌else◌}
 use Rattle.std.specs.Str.{is_utf8}
 use Rattle.std.proofs.lemmas.Bool.{le-leb}
 use Rattle.std.proofs.lemmas.List.{drop-drop, length-drop}
 use Rattle.std.proofs.Math.Seq.{drop-append_seam, take-append_seam}
+use Rattle.std.specs.Borrow.{Bor}
 use Rattle.gateway_words.specs.Places.{Position, Between}
+use Rattle.mp_codec.specs.declared.fault.FormatFault.{FormatFault}
 use Rattle.mp_codec.specs.declared.head.Head.{Head}
 use Rattle.mp_codec.specs.declared.head.Head.TheVariants as head
 use Rattle.mp_codec.specs.declared.span.Span.{Span}
 use Rattle.mp_codec.specs.Value.{Value, value, Values, none, more, count, str_of}
-use Rattle.mp_codec.specs.Spelling.{Lies}
-use Rattle.mp_codec.specs.Fault.{TextFault}
+use Rattle.mp_codec.specs.Spelling.{HeadLies, Lies}
+use Rattle.mp_codec.specs.Fault.{TextFault, ValueLies}
+use Rattle.mp_codec.specs.Reading.{Steps, head_from, bytes_from}
 use Rattle.mp_codec.specs.Maps.{text_from}
 use Rattle.mp_codec.specs.Span.{IsIn, text_or_none, text_at}
+use Rattle.mp_codec.proofs.CursorLemmas.{head_found, take_found}
 use Rattle.mp_codec.proofs.LeafLemmas.{IsText, text_judged}
 use Rattle.mp_codec.proofs.JudgingLemmas.{Reads}
 use Rattle.mp_codec.proofs.ReaderLemmas.{judged_reads}
@@ -33,6 +37,22 @@ between_in bytes s here there i b =
 -- where a value lies in some bytes, the position behind it is in them too
 pub lies_in : (bytes : List ℕ) (v : Value) (here there : Position) → IsIn bytes here → Lies v here there → IsIn bytes there
 lies_in bytes v here there i l = between_in bytes l.bytes here there i l.between
+
+-- the same for a head, a value that says something, and bytes that are taken
+pub head_in : (bytes : List ℕ) (h : Head) (here there : Position) → IsIn bytes here → HeadLies h here there → IsIn bytes there
+head_in bytes h here there i l = between_in bytes l.bytes here there i l.between
+
+pub value_in : {X : Type 0} (bytes : List ℕ) (says : Value → Option X) (said : Option X) (here there : Position) → IsIn bytes here → ValueLies says said here there → IsIn bytes there
+value_in bytes says said here there i l = lies_in bytes l.value here there i l.lies
+
+-- after a head, or after bytes that were taken, a cursor is in its bytes
+pub head_stays : (bytes : List ℕ) (old new : Position) (r : Result Head FormatFault) → Steps (λ h. h) old new r (head_from old) → IsIn bytes old → IsIn bytes new
+head_stays bytes old new (Ok h) s i = head_in bytes h old new i (head_found old new (Ok h) s)
+head_stays bytes old new (Err f) s i = subst (λ (p : Position). IsIn bytes p) (sym s.1) i
+
+pub take_stays : (bytes : List ℕ) (n : ℕ) (old new : Position) (r : Result (Bor (List ℕ)) FormatFault) → Steps (λ s. s.now) old new r (bytes_from n old) → IsIn bytes old → IsIn bytes new
+take_stays bytes n old new (Ok t) s i = let found = take_found n old new (Ok t) s in between_in bytes t.now old new i found.1
+take_stays bytes n old new (Err f) s i = subst (λ (p : Position). IsIn bytes p) (sym s.1) i
 
 -- these bytes stand before a position, up to it
 pub record StandsBefore (bytes text : List ℕ) (there : Position) : Type 0 where

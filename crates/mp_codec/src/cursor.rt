@@ -1,6 +1,6 @@
 //! A cursor over bytes: heads, payloads, and whole values that are skipped.
 
-ghost use Rattle.std.specs.Prelude.{◌≡◌, ◌+◌, ◌<◌, ◌^◌, ◌==◌, ◌≤◌, length, Ok, IsOk, IfOk, IfErr, OnOk, OnErr, IsErrOf};
+ghost use Rattle.std.specs.Prelude.{◌≡◌, ◌+◌, ◌<◌, ◌^◌, ◌==◌, ◌≤◌, List, ℕ, length, Ok, IsOk, IfOk, IfErr, OnOk, OnErr, IsErrOf};
 ghost use Rattle.gateway_words.specs.Places.{Position, Between, start_of};
 ghost use Rattle.mp_codec.specs.declared.head.Head.{Head};
 ghost use Rattle.mp_codec.specs.declared.fault.FormatFault.{FormatFault};
@@ -96,6 +96,8 @@ impl<'a> Cursor<'a> {
         // A fault is where every value that begins here breaks off.
         ensures fault { IfErr result (λ f. Breaks 1 self.old f) }
         ensures unchanged { OnErr result (self.new ≡ self.old) }
+        // It stays in the bytes that it goes over.
+        ensures within { (bytes : List ℕ) → IsIn bytes self.old → IsIn bytes self.new }
 
         ensures exact { Steps (λ head. head) self.old self.new result (head_from self.old) }
     {
@@ -114,6 +116,8 @@ impl<'a> Cursor<'a> {
         // A fault is that fewer are left.
         ensures fault { IfErr result (λ f. (length self.old.left < len) × (f ≡ short self.old)) }
         ensures unchanged { OnErr result (self.new ≡ self.old) }
+        // It stays in the bytes that it goes over.
+        ensures within { (bytes : List ℕ) → IsIn bytes self.old → IsIn bytes self.new }
 
         ensures exact { Steps (λ taken. taken.now) self.old self.new result
             (bytes_from len self.old) }
@@ -137,6 +141,8 @@ impl<'a> Cursor<'a> {
         // Where it breaks off, that is the fault.
         ensures broken { (f : FormatFault) → Breaks 1 self.old f → IsErrOf result f }
         ensures unchanged { OnErr result (self.new ≡ self.old) }
+        // It stays in the bytes that it goes over.
+        ensures within { (bytes : List ℕ) → IsIn bytes self.old → IsIn bytes self.new }
 
         ensures exact { Passes self.old self.new result (values_from 1 self.old) }
     {

@@ -1,6 +1,6 @@
 //! Readers of one value by its kind, for the maps of records, shards and indexes.
 
-ghost use Rattle.std.specs.Prelude.{◌≡◌, true, false, Some, IfOk, IfErr, OnErr, MatchOption};
+ghost use Rattle.std.specs.Prelude.{◌≡◌, List, ℕ, true, false, Some, IfOk, IfErr, OnErr, MatchOption};
 ghost use Rattle.std.specs.Str.{is_utf8};
 ghost use Rattle.gateway_words.specs.Places.{Position};
 ghost use Rattle.mp_codec.specs.declared.head.Head.{Head};
@@ -10,6 +10,7 @@ ghost use Rattle.mp_codec.specs.Value.{number_of, str_of};
 ghost use Rattle.mp_codec.specs.Spelling.{HeadLies, Breaks};
 ghost use Rattle.mp_codec.specs.Fault.{IsFirstFault, WithBreaks, TextFault, ValueLies};
 ghost use Rattle.mp_codec.specs.Reading.{Steps, Advances};
+ghost use Rattle.mp_codec.specs.Span.{IsIn};
 ghost use Rattle.mp_codec.specs.Maps.{bytes_behind, map_head_from, text_from, str_from, number_from};
 
 use crate::cursor::Cursor;
@@ -36,6 +37,8 @@ impl<'a> Cursor<'a> {
     pub fn map_len(&mut self) -> Result<u32, FormatFault>
         ensures found { IfOk result (λ pairs. HeadLies (Head.Map pairs) self.old self.new) }
         ensures unchanged { OnErr result (self.new ≡ self.old) }
+        // It stays in the bytes that it goes over.
+        ensures within { (bytes : List ℕ) → IsIn bytes self.old → IsIn bytes self.new }
 
         ensures exact { Steps (λ pairs. pairs) self.old self.new result (map_head_from self.old) }
     {
@@ -55,6 +58,8 @@ impl<'a> Cursor<'a> {
         // A fault is the first one of a value that must be text.
         ensures fault { IfErr result (λ f. IsFirstFault (WithBreaks TextFault self.old) f) }
         ensures unchanged { OnErr result (self.new ≡ self.old) }
+        // It stays in the bytes that it goes over.
+        ensures within { (bytes : List ℕ) → IsIn bytes self.old → IsIn bytes self.new }
 
         ensures exact { Steps (λ text. text.now) self.old self.new result (text_from self.old) }
     {
@@ -76,6 +81,8 @@ impl<'a> Cursor<'a> {
         // A fault is the place where the value breaks off.
         ensures fault { IfErr result (λ f. Breaks 1 self.old f) }
         ensures unchanged { OnErr result (self.new ≡ self.old) }
+        // It stays in the bytes that it goes over.
+        ensures within { (bytes : List ℕ) → IsIn bytes self.old → IsIn bytes self.new }
 
         ensures exact { Steps bytes_behind self.old self.new result (str_from self.old) }
     {
@@ -96,6 +103,8 @@ impl<'a> Cursor<'a> {
         // A fault is the place where the value breaks off.
         ensures fault { IfErr result (λ f. Breaks 1 self.old f) }
         ensures unchanged { OnErr result (self.new ≡ self.old) }
+        // It stays in the bytes that it goes over.
+        ensures within { (bytes : List ℕ) → IsIn bytes self.old → IsIn bytes self.new }
 
         ensures exact { Steps (λ number. number) self.old self.new result (number_from self.old) }
     {

@@ -2,6 +2,7 @@ use Rattle.std.proofs.Common.{sym, ap, ◌∙◌}
 use Rattle.std.proofs.lemmas.Result.{err_from_is_err_and}
 use Rattle.mp_codec.specs.Maps.{number_from}
 use Rattle.mp_codec.proofs.ReaderLemmas.{number_found, number_fault}
+use Rattle.mp_codec.proofs.SpanLemmas.{value_in}
 use Rattle.mp_codec.proofs.cursor.Cursor.number_or_skip.Goals as goal
 
 pub returns-in_err-number-clause-fault : goal.returns-in_err-number-clause-fault
@@ -11,3 +12,6 @@ returns-in_err-number-clause-fault c =
 
 pub returns-clause-found : goal.returns-clause-found
 returns-clause-found c = number_found c.args.self.now c.number_or_skip_ahead.new.cursor c.in_ok-number.number (ap number_from (sym c.copy-ahead.ensures.same) ∙ c.in_ok-number.ensures)
+
+pub returns-clause-within : goal.returns-clause-within
+returns-clause-within c = λ bytes i. value_in bytes _ _ c.args.self.now c.number_or_skip_ahead.new.cursor i (number_found c.args.self.now c.number_or_skip_ahead.new.cursor c.in_ok-number.number (ap number_from (sym c.copy-ahead.ensures.same) ∙ c.in_ok-number.ensures))

@@ -2,6 +2,7 @@ use Rattle.std.proofs.Common.{sym, ap, ◌∙◌}
 use Rattle.std.proofs.lemmas.Result.{err_from_is_err_and}
 use Rattle.mp_codec.specs.Maps.{bytes_behind, str_from}
 use Rattle.mp_codec.proofs.ReaderLemmas.{str_found, str_fault}
+use Rattle.mp_codec.proofs.SpanLemmas.{value_in}
 use Rattle.mp_codec.proofs.cursor.Cursor.str_or_skip.Goals as goal
 
 pub returns-in_err-bytes-clause-fault : goal.returns-in_err-bytes-clause-fault
@@ -11,3 +12,6 @@ returns-in_err-bytes-clause-fault c =
 
 pub returns-clause-found : goal.returns-clause-found
 returns-clause-found c = str_found c.args.self.now c.str_or_skip_ahead.new.cursor (bytes_behind c.in_ok-bytes.bytes) (ap str_from (sym c.copy-ahead.ensures.same) ∙ c.in_ok-bytes.ensures)
+
+pub returns-clause-within : goal.returns-clause-within
+returns-clause-within c = λ bytes i. value_in bytes _ _ c.args.self.now c.str_or_skip_ahead.new.cursor i (str_found c.args.self.now c.str_or_skip_ahead.new.cursor (bytes_behind c.in_ok-bytes.bytes) (ap str_from (sym c.copy-ahead.ensures.same) ∙ c.in_ok-bytes.ensures))

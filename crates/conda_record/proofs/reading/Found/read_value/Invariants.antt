@@ -1,0 +1,10 @@
+use Rattle.conda_record.proofs.reading.Found.read_value.Given as goal
+
+abbrev pub ghost-text_span : goal.ghost-text_span
+ghost-text_span g a = g.bytes
+
+abbrev pub ghost-span_or_skip : goal.ghost-span_or_skip
+ghost-span_or_skip g a = g.bytes
+
+abbrev pub ghost-spans_or_skip : goal.ghost-spans_or_skip
+ghost-spans_or_skip g a = g.bytes
