@@ -5,3 +5,4 @@ pub mod RecordLemmas
 pub mod RefusalLemmas
 pub mod WrittenLemmas
 pub mod CountLemmas
+pub mod CopyLemmas

@@ -150,8 +150,9 @@ impl Found {
     ) -> Result<(), RecordRefusal>
         ghost bytes: { List ℕ }
         requires { IsIn bytes cur.old }
-        ensures { Gives (λ _. (known bytes self.new, cur.new)) fault_of result (known_value_from
-            record_keys datum_from (known bytes self.old) (place key) cur.old) }
+        ensures within { IsIn bytes cur.new }
+        ensures exact { Gives (λ _. (known bytes self.new, cur.new)) fault_of result
+            (known_value_from record_keys datum_from (known bytes self.old) (place key) cur.old) }
     {
         match key {
             Key::Name => self.name = Some(cur.text_span()?),
@@ -207,7 +208,9 @@ impl Found {
 #[tactic(auto, unfolding(mp_codec::specs::Maps::known_key_from))]
 fn next_key(cur: &mut Cursor<'_>, found: &Found) -> Result<Key, FormatFault>
     ghost bytes: { List ℕ }
-    ensures { Advances place cur.new result
+    requires { IsIn bytes cur.old }
+    ensures within { IsIn bytes cur.new }
+    ensures exact { Advances place cur.new result
         (known_key_from record_keys (known bytes found.now) cur.old) }
 {
     let at = cur.at();
@@ -229,7 +232,8 @@ fn pairs_of_record(
 ) -> Result<RecordSpans, RecordRefusal>
     ghost bytes: { List ℕ }
     requires { IsIn bytes cur.old }
-    ensures { Gives (λ r. (fields_at bytes r, cur.new)) fault_of result
+    ensures within { IsIn bytes cur.new }
+    ensures exact { Gives (λ r. (fields_at bytes r, cur.new)) fault_of result
         (pairs_from pairs (unread record_keys) cur.old) }
 {
     let mut found = Found::new();
@@ -245,7 +249,8 @@ fn pairs_of_record(
 fn record_here(alloc: Global, cur: &mut Cursor<'_>) -> Result<RecordSpans, RecordRefusal>
     ghost bytes: { List ℕ }
     requires { IsIn bytes cur.old }
-    ensures { Gives (λ r. (fields_at bytes r, cur.new)) fault_of result (record_from cur.old) }
+    ensures within { IsIn bytes cur.new }
+    ensures exact { Gives (λ r. (fields_at bytes r, cur.new)) fault_of result (record_from cur.old) }
 {
     let pairs = cur.map_len()?;
     pairs_of_record(alloc, cur, pairs)

@@ -19,12 +19,17 @@ use std::alloc::Global;
 pub(crate) fn span_or_skip(cur: &mut Cursor<'_>) -> Result<Option<Span>, FormatFault>
     ghost bytes: { List ℕ }
     requires { IsIn bytes cur.old }
-    ensures { Advances (option_map (text_at bytes)) cur.new result (optional_text_from cur.old) }
+    ensures within { IsIn bytes cur.new }
+    ensures exact { Advances (option_map (text_at bytes)) cur.new result
+        (optional_text_from cur.old) }
 {
     let Some(text) = cur.str_or_skip()? else {
         return Ok(None);
     };
-    Ok(utf8_text(text).map(|text| cur.span_before(text.len())))
+    match utf8_text(text) {
+        Some(text) => Ok(Some(cur.span_before(text.len()))),
+        None => Ok(None),
+    }
 }
 
 // The spans of the texts of the list that stands at the cursor, or None of a value of another kind.
@@ -35,7 +40,8 @@ pub(crate) fn spans_or_skip(
 ) -> Result<Option<Vec<Span>>, RecordRefusal>
     ghost bytes: { List ℕ }
     requires { IsIn bytes cur.old }
-    ensures { Gives (λ spans. (texts_seen bytes spans, cur.new)) fault_of result
+    ensures within { IsIn bytes cur.new }
+    ensures exact { Gives (λ spans. (texts_seen bytes spans, cur.new)) fault_of result
         (texts_from cur.old) }
 {
     let mut ahead = cur.copy();
@@ -57,7 +63,8 @@ pub(crate) fn spans_or_skip(
 fn spans(alloc: Global, cur: &mut Cursor<'_>, len: u32) -> Result<Vec<Span>, RecordRefusal>
     ghost bytes: { List ℕ }
     requires { IsIn bytes cur.old }
-    ensures { Gives (λ spans. (map (text_at bytes) spans.items, cur.new)) fault_of result
+    ensures within { IsIn bytes cur.new }
+    ensures exact { Gives (λ spans. (map (text_at bytes) spans.items, cur.new)) fault_of result
         (texts_at len cur.old) }
 {
     let mut spans = Vec::new(alloc);
@@ -73,7 +80,10 @@ fn spans(alloc: Global, cur: &mut Cursor<'_>, len: u32) -> Result<Vec<Span>, Rec
 pub(crate) fn digest_or_skip<const N: usize>(
     cur: &mut Cursor<'_>,
 ) -> Result<Option<[u8; N]>, FormatFault>
-    ensures { Advances (λ digest. digest) cur.new result (digest_from N cur.old) }
+    ghost bytes: { List ℕ }
+    requires { IsIn bytes cur.old }
+    ensures within { IsIn bytes cur.new }
+    ensures exact { Advances (λ digest. digest) cur.new result (digest_from N cur.old) }
 {
     let mut ahead = cur.copy();
     match ahead.head()? {

@@ -125,3 +125,7 @@ pub text_in : (bytes text : List ℕ) (here there : Position) → IsIn bytes her
 text_in bytes text here there i e =
     let r : Reads TextFault IsText here text there = judged_reads TextFault IsText here (text_from here) (text_judged here) text there e in
     lies_in bytes r.value here there i r.lies
+
+-- bytes of a str that are text are at the span before the position behind it
+pub str_spans : (bytes text : List ℕ) (here there : Position) → IsIn bytes here → ValueLies str_of (Some text) here there → is_utf8 text ≡ true → text_at bytes (span_before (length text) there) ≡ text
+str_spans bytes text here there i l u = before_at bytes text there (str_before bytes text l.value here there i l.lies l.is) u

@@ -1,4 +1,5 @@
-use Rattle.std.proofs.Common.{◌≡◌, sym, ◌∙◌, ap, ℕ, ◌+◌, ◌-◌, List, [], ◌∷◌, ◌++◌, map, map-append}
+use Rattle.std.proofs.Common.{◌≡◌, sym, ◌∙◌, ap, ℕ, ◌+◌, ◌-◌, List, [], ◌∷◌, ◌++◌, map}
+use Rattle.std.proofs.lemmas.List.{map-append}
 use Rattle.std.proofs.lemmas.Result.{err_from_is_err_and}
 use Rattle.mp_codec.specs.declared.span.Span.{Span}
 use Rattle.mp_codec.specs.Span.{text_at}
@@ -6,8 +7,8 @@ use Rattle.conda_record.specs.Texts.{texts_at}
 use Rattle.conda_record.proofs.TextLoop.{in_front, text_goes_on, text_stops, texts_done}
 use Rattle.conda_record.proofs.value.spans.Goals as goal
 
-pub returns-in_err-text_span : goal.returns-in_err-text_span
-returns-in_err-text_span g c =
+pub returns-in_err-text_span-clause-exact : goal.returns-in_err-text_span-clause-exact
+returns-in_err-text_span-clause-exact g c =
     let p = err_from_is_err_and c.from_residual.result c.from_residual.ensures.1 in
     rw (p.1, p.2) (sym c.loop.invariant.0 ∙ text_stops c.args.len c.loop.counter (map (text_at g.bytes) c.loop.spans.items) _ c.loop.cur c.loop-test.true c.in_err-text_span.ensures.exact.0)
 
@@ -23,5 +24,5 @@ loop-preserved g c =
       c.in_ok-text_span.ensures.within,
     )
 
-pub returns : goal.returns
-returns g c = sym (c.loop.invariant.0) ∙ texts_done c.args.len c.loop.counter (map (text_at g.bytes) c.loop.spans.items) c.loop.cur c.loop-test.false
+pub returns-clause-exact : goal.returns-clause-exact
+returns-clause-exact g c = sym (c.loop.invariant.0) ∙ texts_done c.args.len c.loop.counter (map (text_at g.bytes) c.loop.spans.items) c.loop.cur c.loop-test.false

@@ -8,3 +8,9 @@ ghost-span_or_skip g a = g.bytes
 
 abbrev pub ghost-spans_or_skip : goal.ghost-spans_or_skip
 ghost-spans_or_skip g a = g.bytes
+
+abbrev pub ghost-digest_or_skip : goal.ghost-digest_or_skip
+ghost-digest_or_skip g a = g.bytes
+
+abbrev pub ghost-digest_or_skip-2 : goal.ghost-digest_or_skip-2
+ghost-digest_or_skip-2 g a = g.bytes
