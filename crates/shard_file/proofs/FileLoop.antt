@@ -27,6 +27,19 @@ same_met f g here same = go (text_from here)
     go (Ok t) = ap (λ (b : Bool). cond {A = Read (List ℕ)} b (Err (fault_here kind.Repeated here)) (Ok (t.0, t.1))) (same t.0)
     go (Err e) = refl
 
+-- a new name is the text that stands here
+pub name_read : (met : List ℕ → Bool) (here there : Position) (name : List ℕ) → new_name_from met here ≡ Ok (name, there) → text_from here ≡ Ok (name, there)
+unfolding new_name_from
+name_read met here there name e = go (text_from here) e
+  where
+    pick : (b : Bool) (t : List ℕ × Position) → cond {A = Read (List ℕ)} b (Err (fault_here kind.Repeated here)) (Ok (t.0, t.1)) ≡ Ok (name, there) → ◌≡◌ {A = Read (List ℕ)} (Ok t) (Ok (name, there))
+    pick true t e = absurd (cc)
+    pick false t e = e
+
+    go : (r : Read (List ℕ)) → (r >>= λ t. cond {A = Read (List ℕ)} (met t.0) (Err (fault_here kind.Repeated here)) (Ok (t.0, t.1))) ≡ Ok (name, there) → r ≡ Ok (name, there)
+    go (Ok t) e = pick (met t.0) t e
+    go (Err f) e = absurd (cc)
+
 -- the row of a file
 abbrev pub file_row : Bool → List ℕ → Fields → Row
 file_row conda name fields = record { file = name; conda = conda; fields = fields }

@@ -6,3 +6,4 @@ pub mod ShardLemmas
 pub mod WrittenLemmas
 pub mod UnderLemmas
 pub mod AscendingLemmas
+pub mod SortedMapLemmas

@@ -9,7 +9,9 @@ use Rattle.std.specs.List.Sorted.{IsSortedBy, IsStableBy}
 use Rattle.mp_codec.specs.declared.fault.FormatFault.{FormatFault}
 use Rattle.conda_record.specs.declared.refusal.RecordRefusal.{RecordRefusal}
 use Rattle.conda_record.specs.Reading.{fault_of}
+use Rattle.shard_file.specs.declared.spans.FileSpans.{FileSpans}
 use Rattle.shard_file.specs.Rows.{Row, file_lt}
+use Rattle.shard_file.specs.Spans.{rows_at}
 
 -- the place of a key among the known ones, or their number
 abbrev pub place : Key → ℕ
@@ -19,22 +21,23 @@ place key.Removed = 2
 place key.Other = 3
 
 -- the rows of a map of files that was read
-abbrev pub rows_read : Option (Vec Row Global) → Option (List Row)
-rows_read (Some rows) = Some rows.items
-rows_read None = None
+abbrev pub rows_read : List ℕ → Option (Vec FileSpans Global) → Option (List Row)
+rows_read bytes (Some rows) = Some (rows_at bytes rows.items)
+rows_read bytes None = None
 
 -- a value that was skipped has no rows
 abbrev pub skipped_read : Bool → Option (List Row)
 skipped_read true = Some []
 skipped_read false = None
 
--- what was found, by the places of the keys
-abbrev pub known : Found → List (Option (List Row))
-known found = rows_read found.packages ∷ rows_read found.conda ∷ skipped_read found.removed ∷ []
+-- what was found, by the places of the keys, each text as it stands in these bytes
+abbrev pub known : List ℕ → Found → List (Option (List Row))
+known bytes found = rows_read bytes found.packages ∷ rows_read bytes found.conda ∷ skipped_read found.removed ∷ []
 
 -- ---- what was read of all the bytes
 
 -- rows that were read, in the order of their file names, or the fault of the reading, unless memory ran out
-abbrev pub SortsRows : Result (Vec Row Global) RecordRefusal → Result (List Row) FormatFault → Type 0
-SortsRows (Ok rows) reading = (stood : List Row) × (reading ≡ Ok stood) × IsSortedBy file_lt rows.items × IsStableBy file_lt stood rows.items
-SortsRows (Err e) reading = IfSome (fault_of e) (λ f. reading ≡ Err f)
+abbrev pub SortsRows : List ℕ → Result (Vec FileSpans Global) RecordRefusal → Result (List Row) FormatFault → Type 0
+SortsRows bytes (Ok rows) reading =
+    (stood : List Row) × (reading ≡ Ok stood) × IsSortedBy file_lt (rows_at bytes rows.items) × IsStableBy file_lt stood (rows_at bytes rows.items)
+SortsRows bytes (Err e) reading = IfSome (fault_of e) (λ f. reading ≡ Err f)

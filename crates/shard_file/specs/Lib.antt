@@ -3,6 +3,7 @@ pub mod Seen
 pub mod Leaf
 pub mod Names
 pub mod Reading
+pub mod Spans
 pub mod Found
 pub mod Writing
 pub use Rattle.mp_codec.specs.Value

@@ -4,13 +4,15 @@ ghost use Rattle.std.specs.Prelude.{◌≡◌, ◌||◌, IfOk, [], List, ℕ};
 ghost use Rattle.std.specs.Str.{bytes_eq};
 ghost use Rattle.gateway_words.specs.Reading.{Gives};
 ghost use Rattle.conda_record.specs.Reading.{fault_of};
+ghost use Rattle.mp_codec.specs.Span.{IsIn};
+ghost use Rattle.shard_file.specs.Spans.{rows_at};
 ghost use Rattle.shard_file.specs.Names.{has_name, new_name_from};
 ghost use Rattle.shard_file.specs.Reading.{files_after, files_from};
 
 use crate::names;
-use crate::shard::FileRecord;
-use conda_record::{PackageRecord, RecordRefusal};
-use mp_codec::{Cursor, FaultKind, FormatFault, Text};
+use crate::spans::FileSpans;
+use conda_record::{RecordRefusal, RecordSpans};
+use mp_codec::{Cursor, FaultKind, FormatFault};
 use std::alloc::Global;
 use std::collections::BTreeSet;
 
@@ -20,8 +22,12 @@ pub(crate) fn files(
     alloc: Global,
     cur: &mut Cursor<'_>,
     conda: bool,
-) -> Result<Vec<FileRecord>, RecordRefusal>
-    ensures { Gives (λ rows. (rows.items, cur.new)) fault_of result (files_from conda cur.old) }
+) -> Result<Vec<FileSpans>, RecordRefusal>
+    ghost bytes: { List ℕ }
+    requires { IsIn bytes cur.old }
+    ensures within { IsIn bytes cur.new }
+    ensures exact { Gives (λ rows. (rows_at bytes rows.items, cur.new)) fault_of result
+        (files_from conda cur.old) }
 {
     let files = cur.map_len()?;
     rows_of_files(alloc, cur, conda, files)
@@ -33,18 +39,21 @@ fn rows_of_files(
     cur: &mut Cursor<'_>,
     conda: bool,
     files: u32,
-) -> Result<Vec<FileRecord>, RecordRefusal>
-    ensures { Gives (λ rows. (rows.items, cur.new)) fault_of result
+) -> Result<Vec<FileSpans>, RecordRefusal>
+    ghost bytes: { List ℕ }
+    requires { IsIn bytes cur.old }
+    ensures within { IsIn bytes cur.new }
+    ensures exact { Gives (λ rows. (rows_at bytes rows.items, cur.new)) fault_of result
         (files_after conda files [] cur.old) }
 {
     let mut rows = Vec::new(alloc);
     let mut names = BTreeSet::new(alloc);
     for _ in 0..files {
         let name = new_name(cur, &mut names)?;
-        let row = FileRecord {
-            file: Text::copy(alloc, name)?,
+        let row = FileSpans {
+            file: cur.span_before(name.len()),
             conda,
-            value: PackageRecord::read(alloc, cur)?,
+            value: RecordSpans::read(alloc, cur)?,
         };
         rows.push(row)?;
     }
@@ -57,6 +66,7 @@ fn new_name<'a>(
     cur: &mut Cursor<'a>,
     names: &mut BTreeSet<&'a str>,
 ) -> Result<&'a str, RecordRefusal>
+    ensures within { (bytes : List ℕ) → IsIn bytes cur.old → IsIn bytes cur.new }
     ensures exact { Gives (λ name. (name.now, cur.new)) fault_of result
         (new_name_from (has_name names.old) cur.old) }
     ensures more { IfOk result (λ name. (q : List ℕ) → has_name names.new q

@@ -13,6 +13,7 @@ mod names;
 mod reading;
 mod refusal;
 mod shard;
+mod spans;
 #[cfg(test)]
 mod tests;
 mod writing;

@@ -1,17 +1,19 @@
 //! Reading a shard, key by key.
 
-ghost use Rattle.std.specs.Prelude.{◌≡◌, Some, None, is_some, slice_index_or, OnOk, OnErr, IfOk};
+ghost use Rattle.std.specs.Prelude.{◌≡◌, List, ℕ, Some, None, is_some, slice_index_or, OnOk, OnErr, IfOk};
 ghost use Rattle.std.specs.List.Sorted.{IsSortedBy, IsStableBy};
 ghost use Rattle.gateway_words.specs.Reading.{Gives};
 ghost use Rattle.mp_codec.specs.Reading.{Advances};
 ghost use Rattle.mp_codec.specs.Maps.{bytes_behind, place_of, unread, known_key_from, known_value_from};
 ghost use Rattle.conda_record.specs.Reading.{fault_of};
 ghost use Rattle.shard_file.specs.Rows.{shard_keys, file_lt};
+ghost use Rattle.mp_codec.specs.Span.{IsIn};
+ghost use Rattle.shard_file.specs.Spans.{rows_at};
 ghost use Rattle.shard_file.specs.Found.{place, known, SortsRows};
 ghost use Rattle.shard_file.specs.Reading.{member_from, shard_end_from, pairs_from, shard_from, rows_from};
 
 use crate::files::files;
-use crate::shard::FileRecord;
+use crate::spans::FileSpans;
 use conda_record::RecordRefusal;
 use mp_codec::{Cursor, FaultKind, FormatFault};
 use std::alloc::{AllocError, Global};
@@ -30,8 +32,8 @@ enum Key {
 // was met.
 #[derive(Drop)]
 struct Found {
-    packages: Option<Vec<FileRecord>>,
-    conda: Option<Vec<FileRecord>>,
+    packages: Option<Vec<FileSpans>>,
+    conda: Option<Vec<FileSpans>>,
     removed: bool,
 }
 
@@ -56,7 +58,8 @@ fn key_of(key: Option<&[u8]>) -> Key
 impl Found {
     // Nothing was read.
     fn new() -> Found
-        ensures { known result ≡ unread shard_keys }
+        ghost bytes: { List ℕ }
+        ensures { known bytes result ≡ unread shard_keys }
     {
         Found {
             packages: None,
@@ -67,7 +70,8 @@ impl Found {
 
     // Whether this key was read.
     fn has(&self, key: Key) -> bool
-        ensures { result ≡ is_some (slice_index_or (known self.now) (place key) None) }
+        ghost bytes: { List ℕ }
+        ensures { result ≡ is_some (slice_index_or (known bytes self.now) (place key) None) }
     {
         match key {
             Key::Packages => self.packages.is_some(),
@@ -85,8 +89,11 @@ impl Found {
         cur: &mut Cursor<'_>,
         key: Key,
     ) -> Result<(), RecordRefusal>
-        ensures { Gives (λ _. (known self.new, cur.new)) fault_of result
-            (known_value_from shard_keys member_from (known self.old) (place key) cur.old) }
+        ghost bytes: { List ℕ }
+        requires { IsIn bytes cur.old }
+        ensures within { IsIn bytes cur.new }
+        ensures exact { Gives (λ _. (known bytes self.new, cur.new)) fault_of result
+            (known_value_from shard_keys member_from (known bytes self.old) (place key) cur.old) }
     {
         match key {
             Key::Packages => self.packages = Some(files(alloc, cur, false)?),
@@ -102,9 +109,10 @@ impl Found {
 
     // All rows, those of packages first.
     #[tactic(auto, unfolding(mp_codec::specs::Maps::known_end_from, crate::specs::Reading::shard_end_from))]
-    fn finish(self, alloc: Global, cur: &Cursor<'_>) -> Result<Vec<FileRecord>, RecordRefusal>
-        ensures { Gives (λ rows. (rows.items, cur.now)) fault_of result
-            (shard_end_from (known self) cur.now) }
+    fn finish(self, alloc: Global, cur: &Cursor<'_>) -> Result<Vec<FileSpans>, RecordRefusal>
+        ghost bytes: { List ℕ }
+        ensures { Gives (λ rows. (rows_at bytes rows.items, cur.now)) fault_of result
+            (shard_end_from (known bytes self) cur.now) }
     {
         let mut rows = self.packages.unwrap_or(Vec::new(alloc));
         let mut conda = self.conda.unwrap_or(Vec::new(alloc));
@@ -116,7 +124,11 @@ impl Found {
 // The key that stands at the cursor, which was not read before if it is known.
 #[tactic(auto, unfolding(mp_codec::specs::Maps::known_key_from))]
 fn next_key(cur: &mut Cursor<'_>, found: &Found) -> Result<Key, FormatFault>
-    ensures { Advances place cur.new result (known_key_from shard_keys (known found.now) cur.old) }
+    ghost bytes: { List ℕ }
+    requires { IsIn bytes cur.old }
+    ensures within { IsIn bytes cur.new }
+    ensures exact { Advances place cur.new result
+        (known_key_from shard_keys (known bytes found.now) cur.old) }
 {
     let at = cur.at();
     let key = key_of(cur.str_or_skip()?);
@@ -134,8 +146,10 @@ fn pairs_of_shard(
     alloc: Global,
     cur: &mut Cursor<'_>,
     pairs: u32,
-) -> Result<Vec<FileRecord>, RecordRefusal>
-    ensures { Gives (λ rows. (rows.items, cur.new)) fault_of result
+) -> Result<Vec<FileSpans>, RecordRefusal>
+    ghost bytes: { List ℕ }
+    requires { IsIn bytes cur.old }
+    ensures { Gives (λ rows. (rows_at bytes rows.items, cur.new)) fault_of result
         (pairs_from pairs (unread shard_keys) cur.old) }
 {
     let mut found = Found::new();
@@ -148,26 +162,29 @@ fn pairs_of_shard(
 
 // The rows of the shard that stands at the cursor.
 #[tactic(auto, unfolding(mp_codec::specs::Maps::map_from, crate::specs::Reading::shard_from))]
-fn shard_here(alloc: Global, cur: &mut Cursor<'_>) -> Result<Vec<FileRecord>, RecordRefusal>
-    ensures { Gives (λ rows. (rows.items, cur.new)) fault_of result (shard_from cur.old) }
+fn shard_here(alloc: Global, cur: &mut Cursor<'_>) -> Result<Vec<FileSpans>, RecordRefusal>
+    ghost bytes: { List ℕ }
+    requires { IsIn bytes cur.old }
+    ensures { Gives (λ rows. (rows_at bytes rows.items, cur.new)) fault_of result
+        (shard_from cur.old) }
 {
     let pairs = cur.map_len()?;
     pairs_of_shard(alloc, cur, pairs)
 }
 
 // The rows of the shard that some bytes are, in the order of their file names.
-pub(crate) fn sorted_rows(alloc: Global, bytes: &[u8]) -> Result<Vec<FileRecord>, RecordRefusal>
-    ensures { SortsRows result (rows_from bytes.now) }
+pub(crate) fn sorted_rows(alloc: Global, bytes: &[u8]) -> Result<Vec<FileSpans>, RecordRefusal>
+    ensures { SortsRows bytes.now result (rows_from bytes.now) }
 {
     let mut rows = rows(alloc, bytes)?;
-    sort(&mut rows)?;
+    sort(bytes, &mut rows)?;
     Ok(rows)
 }
 
 // The rows of the shard that some bytes are, in the order in which they stand.
 #[tactic(auto, unfolding(mp_codec::specs::Maps::all_from, crate::specs::Reading::rows_from))]
-fn rows(alloc: Global, bytes: &[u8]) -> Result<Vec<FileRecord>, RecordRefusal>
-    ensures { Gives (λ rows. rows.items) fault_of result (rows_from bytes.now) }
+fn rows(alloc: Global, bytes: &[u8]) -> Result<Vec<FileSpans>, RecordRefusal>
+    ensures { Gives (λ rows. rows_at bytes.now rows.items) fault_of result (rows_from bytes.now) }
 {
     let mut cur = Cursor::new(bytes);
     let rows = shard_here(alloc, &mut cur)?;
@@ -181,9 +198,10 @@ fn rows(alloc: Global, bytes: &[u8]) -> Result<Vec<FileRecord>, RecordRefusal>
 }
 
 // Puts rows in the order of their file names; rows of one name stay as they stood.
-fn sort(rows: &mut Vec<FileRecord>) -> Result<(), AllocError>
-    ensures ascending { OnOk result (IsSortedBy file_lt rows.new.items) }
-    ensures in_order { IsStableBy file_lt rows.old.items rows.new.items }
+fn sort(bytes: &[u8], rows: &mut Vec<FileSpans>) -> Result<(), AllocError>
+    ensures ascending { OnOk result (IsSortedBy file_lt (rows_at bytes.now rows.new.items)) }
+    ensures in_order { IsStableBy file_lt (rows_at bytes.now rows.old.items)
+        (rows_at bytes.now rows.new.items) }
 {
-    rows.sort_by(|a, b| a.file.as_str().cmp(b.file.as_str()))
+    rows.sort_by(|a, b| a.file.text(bytes).cmp(b.file.text(bytes)))
 }

@@ -2,6 +2,7 @@
 
 use crate::reading::sorted_rows;
 use crate::refusal::ShardRefusal;
+use crate::spans::FileSpans;
 use conda_record::{PackageRecord, RecordRefusal, RecordView};
 use mp_codec::Text;
 use std::alloc::Global;
@@ -37,19 +38,24 @@ pub struct ShardRow<'a> {
     pub view: RecordView<'a>,
 }
 
-/// The rows of some bytes, with the bytes. Contracts see both.
+/// The rows of some bytes, with the bytes, which are kept once: a row is places in them. Contracts
+/// see both.
 #[derive(Debug, Drop)]
 pub struct Shard {
     pub(crate) bytes: Vec<u8>,
-    pub(crate) rows: Vec<FileRecord>,
+    pub(crate) rows: Vec<FileSpans>,
 }
 
 impl Model for Shard {
     ghost use Rattle.shard_file.specs.Rows.{Contents};
+    ghost use Rattle.shard_file.specs.Spans.{rows_at};
 
     ghost Value = { Contents };
 
-    ghost view = { λ shard. record { bytes = shard.bytes.items; rows = shard.rows.items } };
+    ghost view = { λ shard. record {
+      bytes = shard.bytes.items;
+      rows = rows_at shard.bytes.items shard.rows.items;
+    } };
 }
 
 impl Shard {
@@ -98,7 +104,7 @@ impl Shard {
         ensures { option_map row_seen result ≡ slice_get self.now.rows i }
     {
         match self.rows.get(i) {
-            Some(row) => Some(row.shown()),
+            Some(row) => Some(row.shown(self.bytes.as_slice())),
             None => None,
         }
     }
@@ -108,21 +114,5 @@ impl Shard {
         ensures { result.now ≡ self.now.bytes }
     {
         self.bytes.as_slice()
-    }
-}
-
-impl FileRecord {
-    ghost use Rattle.std.specs.Prelude.{◌≡◌};
-    ghost use Rattle.shard_file.specs.Seen.{row_seen};
-
-    // The row, to look at.
-    fn shown(&self) -> ShardRow<'_>
-        ensures { row_seen result ≡ self.now }
-    {
-        ShardRow {
-            file: self.file.as_str(),
-            conda: self.conda,
-            view: self.value.view(),
-        }
     }
 }

@@ -11,29 +11,31 @@ use Rattle.shard_file.specs.Reading.{member_from, shard_end_from, pairs_from}
 use Rattle.shard_file.proofs.reading.pairs_of_shard.Goals as goal
 
 pub returns-in_err-key : goal.returns-in_err-key
-returns-in_err-key c =
+returns-in_err-key g c =
     let p = err_from_is_err_and c.from_residual.result c.from_residual.ensures.1 in
-    rw (p.1, p.2) (sym c.loop.invariant ∙ key_stops (known_key_from shard_keys) (known_value_from shard_keys member_from) shard_end_from c.args.pairs c.loop.counter (known c.loop.found) _ c.loop.cur c.loop-test.true c.in_err-key.ensures)
+    rw (p.1, p.2) (sym c.loop.invariant.0 ∙ key_stops (known_key_from shard_keys) (known_value_from shard_keys member_from) shard_end_from c.args.pairs c.loop.counter (known g.bytes c.loop.found) _ c.loop.cur c.loop-test.true c.in_err-key.ensures.exact)
 
 pub returns-in_err-read_value : goal.returns-in_err-read_value
-returns-in_err-read_value c =
+returns-in_err-read_value g c =
     let p = err_from_is_err_and c.from_residual-in_err-read_value.result c.from_residual-in_err-read_value.ensures.1 in
     rw (p.1, p.2) (fault_along c.in_err-read_value.field-0.0 _ (λ (f : FormatFault). pairs_from c.args.pairs (unread shard_keys) c.args.cur.now ≡ Err f)
-    (λ f e. sym c.loop.invariant ∙ value_stops (known_key_from shard_keys) (known_value_from shard_keys member_from) shard_end_from c.args.pairs c.loop.counter (known c.loop.found) (place c.in_ok-key.key) f c.loop.cur c.next_key.new.cur c.loop-test.true c.in_ok-key.ensures e)
-    c.in_err-read_value.ensures)
+    (λ f e. sym c.loop.invariant.0 ∙ value_stops (known_key_from shard_keys) (known_value_from shard_keys member_from) shard_end_from c.args.pairs c.loop.counter (known g.bytes c.loop.found) (place c.in_ok-key.key) f c.loop.cur c.next_key.new.cur c.loop-test.true c.in_ok-key.ensures.exact e)
+    c.in_err-read_value.ensures.exact)
 
 pub loop-preserved : goal.loop-preserved
-loop-preserved c =
-    sym (goes_on (known_key_from shard_keys) (known_value_from shard_keys member_from) shard_end_from c.args.pairs c.loop.counter (known c.loop.found) (known c.read_value.new.self) (place c.in_ok-key.key)
-    c.loop.cur c.next_key.new.cur c.read_value.new.cur c.loop-test.true c.in_ok-key.ensures c.in_ok-read_value.ensures)
-    ∙ c.loop.invariant
+loop-preserved g c = (
+  sym (goes_on (known_key_from shard_keys) (known_value_from shard_keys member_from) shard_end_from c.args.pairs c.loop.counter (known g.bytes c.loop.found) (known g.bytes c.read_value.new.self) (place c.in_ok-key.key)
+      c.loop.cur c.next_key.new.cur c.read_value.new.cur c.loop-test.true c.in_ok-key.ensures.exact c.in_ok-read_value.ensures.exact)
+      ∙ c.loop.invariant.0,
+  c.in_ok-read_value.ensures.within,
+)
 
 pub returns-in_err-finish : goal.returns-in_err-finish
-returns-in_err-finish c =
+returns-in_err-finish g c =
     let p = err_from_is_err_and c.from_residual-in_err-finish.result c.from_residual-in_err-finish.ensures.1 in
     rw (p.1, p.2) (fault_along c.in_err-finish.field-0.0 _ (λ (f : FormatFault). pairs_from c.args.pairs (unread shard_keys) c.args.cur.now ≡ Err f)
-    (λ f e. sym c.loop.invariant ∙ is_done (known_key_from shard_keys) (known_value_from shard_keys member_from) shard_end_from c.args.pairs c.loop.counter (known c.loop.found) c.loop.cur c.loop-test.false ∙ e)
+    (λ f e. sym c.loop.invariant.0 ∙ is_done (known_key_from shard_keys) (known_value_from shard_keys member_from) shard_end_from c.args.pairs c.loop.counter (known g.bytes c.loop.found) c.loop.cur c.loop-test.false ∙ e)
     c.in_err-finish.ensures)
 
 pub returns : goal.returns
-returns c = sym c.loop.invariant ∙ is_done (known_key_from shard_keys) (known_value_from shard_keys member_from) shard_end_from c.args.pairs c.loop.counter (known c.loop.found) c.loop.cur c.loop-test.false ∙ c.in_ok-finish.ensures
+returns g c = sym c.loop.invariant.0 ∙ is_done (known_key_from shard_keys) (known_value_from shard_keys member_from) shard_end_from c.args.pairs c.loop.counter (known g.bytes c.loop.found) c.loop.cur c.loop-test.false ∙ c.in_ok-finish.ensures
