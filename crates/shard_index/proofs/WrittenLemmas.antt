@@ -237,6 +237,7 @@ same_index s t xs ys w utf8 are v text too e =
 
 -- ---- no spelling of the value that an index is has fewer bytes
 
+-- each head in the names and digests that are written is the shortest
 tight_entries : (listed : List Listed) → All (λ x. IsShort x.name) listed → All IsEntry listed → AreTight (length listed * 2) (flat_map entry_bytes listed)
 unfolding entry_bytes
 tight_entries [] short are = tight_none
@@ -255,6 +256,7 @@ tight_entries (x ∷ rest) short are =
 abbrev info_values : List ℕ → List (Option (List ℕ))
 info_values subdir = Some (str_bytes default_base) ∷ Some (str_bytes default_shards_base) ∷ Some (str_bytes subdir) ∷ None ∷ []
 
+-- each head in an info that is written is the shortest
 tight_info : (subdir : List ℕ) → IsShort subdir → IsTight (info_bytes subdir)
 tight_info subdir short =
     tight_known_map info_keys (info_values subdir) refl (omega arith) (names_short info_keys refl)
@@ -264,6 +266,7 @@ tight_info subdir short =
 abbrev values : List ℕ → List Listed → List (Option (List ℕ))
 values subdir listed = Some (uint_bytes 1) ∷ Some (info_bytes subdir) ∷ Some (listed_bytes listed) ∷ []
 
+-- an index that is written has as few bytes as any spelling of its value
 pub shortest_index : (subdir : List ℕ) (listed : List Listed) → IsWritable subdir listed → All IsEntry listed → (v : Value) → Spells v (index_bytes subdir listed) → IsShortest v (index_bytes subdir listed)
 unfolding index_bytes
 shortest_index subdir listed w are =
