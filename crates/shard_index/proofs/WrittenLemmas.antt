@@ -1,6 +1,6 @@
 -- An index that is written is read again as what it was written for.
-use Rattle.std.proofs.Common.{◌≡◌, refl, sym, ◌∙◌, ap, subst, ℕ, zero, suc, pos, ◌+◌, ◌<◌, ◌^◌, Bool, true, false, cond, ltb, ◌&&◌, ◌||◌, List, [], ◌∷◌, ◌++◌, length, get_or, map, arith, append_assoc, append-nil}
-use Rattle.std.specs.Prelude.{◌==◌, Ok, Err, Option, Some, None, is_some, slice_index_or, slice_set, codes}
+use Rattle.std.proofs.Common.{◌≡◌, refl, sym, ◌∙◌, ap, subst, ℕ, zero, suc, pos, ◌+◌, ◌*◌, ◌<◌, ◌^◌, Bool, true, false, cond, ltb, ◌&&◌, ◌||◌, List, [], ◌∷◌, ◌++◌, length, get_or, map, arith, append_assoc, append-nil}
+use Rattle.std.specs.Prelude.{◌==◌, Ok, Err, Option, Some, None, IfSome, is_some, slice_index_or, slice_set, codes}
 use Rattle.std.specs.List.{flat_map, All, list_all, IsDistinct, AllByRecursion}
 use Rattle.std.specs.List.Sorted.{IsSortedBy, IsStrictlySortedBy}
 use Rattle.std.specs.Ordering.{nat_cmp, is_lt, eq_by_cmp, ordering_reverse}
@@ -17,22 +17,24 @@ use Rattle.gateway_words.specs.Places.{Position}
 use Rattle.gateway_words.specs.Reading.{◌>>=◌}
 use Rattle.mp_codec.specs.declared.fault.FaultKind.TheVariants as kind
 use Rattle.mp_codec.specs.declared.head.Head.TheVariants as head
-use Rattle.mp_codec.specs.Value.{whole}
+use Rattle.mp_codec.specs.Value.{Value, whole}
+use Rattle.mp_codec.specs.Spelling.{Spells}
 use Rattle.mp_codec.specs.Fault.{fault_here}
 use Rattle.mp_codec.specs.Reading.{head_from, bytes_from}
 use Rattle.mp_codec.specs.Maps.{Read, skipped, str_from, text_from, entries_from, place_of, unread, known_key_from, known_value_from, known_end_from, known_map_from}
-use Rattle.mp_codec.specs.Writing.{uint_bytes, str_bytes, bin_head, bin_bytes, map_head, pair_bytes}
+use Rattle.mp_codec.specs.Writing.{uint_bytes, str_bytes, bin_head, bin_bytes, map_head, pair_bytes, IsShortest}
 use Rattle.mp_codec.proofs.BindLemmas.{bind_ok}
 use Rattle.mp_codec.proofs.WrittenLemmas.{Halves, halves, nothing_between, ReadAs, read_turned, read_all, head_read, bin_head_stands, uint_stands, bytes_read, str_read_back, text_read_back, map_read_back, known_map_written}
+use Rattle.mp_codec.proofs.ShortestLemmas.{IsTight, AreTight, tight_uint, tight_str, tight_bin, tight_map, tight_none, tight_one_more, tight_known_map, pointwise, names_short, shortest}
 use Rattle.shard_index.specs.Digests.{digest_by_head, digest_or_wrong, digest_behind, digest_from}
 use Rattle.shard_index.specs.Version.{version_behind, version_from}
 use Rattle.shard_index.specs.Info.{Info, info_keys, default_base, default_shards_base, text_in, optional_text_from, info_datum_from, info_read, info_from}
 use Rattle.shard_index.specs.Index.{Listed, Contents, name_lt, version_key, info_key, shards_key, index_keys, IndexOf}
 use Rattle.shard_index.specs.Names.{new_name_from}
 use Rattle.shard_index.specs.Reading.{is_listed, AreDistinct, name_from, listed_value_from, listed_after, listed_from, Datum, Shards, Version, Infos, member_from, index_end_from, index_pairs_from, index_from, contents_from}
-use Rattle.shard_index.specs.Writing.{entry_bytes, listed_bytes, info_bytes, index_bytes, IsShort, IsWritable, IsEntry, contents_written, text_pair, version_pair, bases_pairs, info_pair, shards_pair}
+use Rattle.shard_index.specs.Writing.{entry_bytes, listed_bytes, info_bytes, written_keys, index_bytes, IsShort, IsWritable, IsEntry, contents_written, text_pair, version_pair, bases_pairs, info_pair, shards_pair}
 use Rattle.shard_index.proofs.InfoLemmas.{differ, info_is}
-use Rattle.shard_index.proofs.IndexLemmas.{index_found}
+use Rattle.shard_index.proofs.IndexLemmas.{index_found, one_index}
 
 -- ---- the parts of an index
 
@@ -225,6 +227,53 @@ sorted_again listed up k d low high =
 pub read_again : (subdir : List ℕ) (listed : List Listed) → IsWritable subdir listed → is_utf8 subdir ≡ true → All IsEntry listed → IndexOf (index_bytes subdir listed) (contents_written subdir listed)
 read_again subdir listed w utf8 are =
     index_found (index_bytes subdir listed) (contents_written subdir listed).info listed listed (contents_back subdir listed w utf8 are) (sorted_again listed w.ascending) (λ x. refl)
+
+-- indexes with equal bytes have the same subdir and the same names
+pub same_index : (s t : List ℕ) (xs ys : List Listed) → IsWritable s xs → is_utf8 s ≡ true → All IsEntry xs → IsWritable t ys → is_utf8 t ≡ true → All IsEntry ys → index_bytes s xs ≡ index_bytes t ys → (s ≡ t) × (xs ≡ ys)
+same_index s t xs ys w utf8 are v text too e =
+    let other : IndexOf (index_bytes s xs) (contents_written t ys) = subst (λ (bytes : List ℕ). IndexOf bytes (contents_written t ys)) (sym e) (read_again t ys v text too) in
+    let same : contents_written s xs ≡ contents_written t ys = one_index (index_bytes s xs) (contents_written s xs) (contents_written t ys) (read_again s xs w utf8 are) other in
+    (ap (λ (c : Contents). c.info.subdir) same, ap (λ (c : Contents). c.listed) same)
+
+-- ---- no spelling of the value that an index is has fewer bytes
+
+-- each head in the names and digests that are written is the shortest
+tight_entries : (listed : List Listed) → All (λ x. IsShort x.name) listed → All IsEntry listed → AreTight (length listed * 2) (flat_map entry_bytes listed)
+unfolding entry_bytes
+tight_entries [] short are = tight_none
+tight_entries (x ∷ rest) short are =
+    let is : IsEntry x = all_first IsEntry x rest are in
+    let len : length x.digest.0 ≡ 32 = is.digest in
+    let few : length x.digest.0 < 2 ^ 32 = omega arith in
+    let two : suc (suc (length rest * 2)) ≡ suc (length rest) * 2 = omega arith in
+    subst (λ (n : ℕ). AreTight n ((str_bytes x.name ++ bin_bytes x.digest.0) ++ flat_map entry_bytes rest)) two
+    (subst (λ (b : List ℕ). AreTight (suc (suc (length rest * 2))) b) (sym (append_assoc (str_bytes x.name) (bin_bytes x.digest.0) (flat_map entry_bytes rest)))
+    (tight_one_more (suc (length rest * 2)) (str_bytes x.name) (bin_bytes x.digest.0 ++ flat_map entry_bytes rest) (tight_str x.name (all_first (λ x. IsShort x.name) x rest short))
+    (tight_one_more (length rest * 2) (bin_bytes x.digest.0) (flat_map entry_bytes rest) (tight_bin x.digest.0 few)
+    (tight_entries rest (all_others (λ x. IsShort x.name) x rest short) (all_others IsEntry x rest are)))))
+
+-- what is written behind each key of the info
+abbrev info_values : List ℕ → List (Option (List ℕ))
+info_values subdir = Some (str_bytes default_base) ∷ Some (str_bytes default_shards_base) ∷ Some (str_bytes subdir) ∷ None ∷ []
+
+-- each head in an info that is written is the shortest
+tight_info : (subdir : List ℕ) → IsShort subdir → IsTight (info_bytes subdir)
+tight_info subdir short =
+    tight_known_map info_keys (info_values subdir) refl (omega arith) (names_short info_keys refl)
+    (pointwise (λ (v : Option (List ℕ)). IfSome v IsTight) (info_values subdir) (tight_str default_base (omega arith), (tight_str default_shards_base (omega arith), (tight_str subdir short, (tt, tt)))))
+
+-- what is written behind each key
+abbrev values : List ℕ → List Listed → List (Option (List ℕ))
+values subdir listed = Some (uint_bytes 1) ∷ Some (info_bytes subdir) ∷ Some (listed_bytes listed) ∷ []
+
+-- an index that is written has as few bytes as any spelling of its value
+pub shortest_index : (subdir : List ℕ) (listed : List Listed) → IsWritable subdir listed → All IsEntry listed → (v : Value) → Spells v (index_bytes subdir listed) → IsShortest v (index_bytes subdir listed)
+unfolding index_bytes
+shortest_index subdir listed w are =
+    let names : IsTight (listed_bytes listed) = tight_map (length listed) (flat_map entry_bytes listed) w.few (tight_entries listed w.names_short are) in
+    shortest (index_bytes subdir listed)
+    (tight_known_map written_keys (values subdir listed) refl (omega arith) (names_short written_keys refl)
+    (pointwise (λ (v : Option (List ℕ)). IfSome v IsTight) (values subdir listed) (tight_uint 1 (omega arith), (tight_info subdir w.subdir_short, (names, tt)))))
 
 -- ---- indexes that can be written
 

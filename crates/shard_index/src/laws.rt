@@ -3,6 +3,9 @@
 ghost use Rattle.std.specs.Prelude.{◌≡◌, true, List, ℕ};
 ghost use Rattle.std.specs.List.{All};
 ghost use Rattle.std.specs.Str.{is_utf8};
+ghost use Rattle.mp_codec.specs.Value.{Value};
+ghost use Rattle.mp_codec.specs.Spelling.{Spells};
+ghost use Rattle.mp_codec.specs.Writing.{IsShortest};
 ghost use Rattle.shard_index.specs.Index.{Listed, Contents, IndexOf};
 ghost use Rattle.shard_index.specs.Writing.{index_bytes, IsWritable, IsEntry, contents_written};
 
@@ -11,12 +14,19 @@ pub fn bytes_are_one_index()
     ensures { (bytes : List ℕ) (c d : Contents) → IndexOf bytes c → IndexOf bytes d → c ≡ d }
 {}
 
-/// What is written is read as the subdir and the names that it was written for, and equal ones
-/// have equal bytes.
+/// What is written is read as the subdir and the names that it was written for; so different ones
+/// have different bytes, and equal ones have equal bytes.
 pub fn a_written_index_is_read()
     ensures read { (subdir : List ℕ) (listed : List Listed) → IsWritable subdir listed
         → is_utf8 subdir ≡ true → All IsEntry listed
         → IndexOf (index_bytes subdir listed) (contents_written subdir listed) }
     ensures equal { (s t : List ℕ) (xs ys : List Listed) → s ≡ t → xs ≡ ys
         → index_bytes s xs ≡ index_bytes t ys }
+    ensures apart { (s t : List ℕ) (xs ys : List Listed) → IsWritable s xs → is_utf8 s ≡ true
+        → All IsEntry xs → IsWritable t ys → is_utf8 t ≡ true → All IsEntry ys
+        → index_bytes s xs ≡ index_bytes t ys → (s ≡ t) × (xs ≡ ys) }
+    // No spelling of the value that was written has fewer bytes.
+    ensures shortest { (subdir : List ℕ) (listed : List Listed) → IsWritable subdir listed
+        → All IsEntry listed → (v : Value) → Spells v (index_bytes subdir listed)
+        → IsShortest v (index_bytes subdir listed) }
 {}

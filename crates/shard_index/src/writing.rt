@@ -1,6 +1,6 @@
 //! Writing an index behind what a vector holds.
 
-ghost use Rattle.std.specs.Prelude.{◌≡◌, ◌<◌, ◌≤◌, ◌^◌, ◌++◌, true, length, take, vec_len, OnOk, OnErr};
+ghost use Rattle.std.specs.Prelude.{◌≡◌, ◌<◌, ◌^◌, ◌++◌, true, length, take, OnOk, OnErr};
 ghost use Rattle.std.specs.List.{flat_map, All};
 ghost use Rattle.std.specs.Str.{is_utf8};
 ghost use Rattle.mp_codec.specs.Writing.{bin_bytes};
@@ -22,7 +22,7 @@ ghost use Rattle.shard_index.specs.Writing.{
 use crate::info::{DEFAULT_BASE, DEFAULT_SHARDS_BASE};
 use conda_name::Name;
 use digest_gate::Digest;
-use mp_codec::{put_bin, put_map, put_str, put_uint};
+use mp_codec::{cut_back, put_bin, put_map, put_str, put_uint};
 use std::alloc::AllocError;
 
 /// A name that is to be listed, and the digest of its shard.
@@ -165,21 +165,4 @@ fn shown(row: &IndexRow) -> &str
     ensures text { is_utf8 row.now.name ≡ true }
 {
     row.name.as_str()
-}
-
-// The outcome of a writer, with the vector cut back to its old length where it failed.
-fn cut_back(
-    out: &mut Vec<u8>,
-    old: usize,
-    outcome: Result<(), AllocError>,
-) -> Result<(), AllocError>
-    requires { old ≤ vec_len out.old }
-    ensures same { result ≡ outcome }
-    ensures ok { OnOk outcome (out.new.items ≡ out.old.items) }
-    ensures cut { OnErr outcome (out.new.items ≡ take old out.old.items) }
-{
-    if outcome.is_err() {
-        out.truncate(old);
-    }
-    outcome
 }
