@@ -20,3 +20,4 @@ pub mod WrittenLemmas
 pub mod AppendLemmas
 pub mod ShortestLemmas
 pub mod SpanLemmas
+pub mod StrLemmas

@@ -1,5 +1,5 @@
 -- Reading maps and what may stand in them, pair by pair, as functions of the position.
-use Rattle.std.specs.Prelude.{ℕ, zero, suc, ◌&&◌, ◌==◌, Bool, true, not, nat_lt, List, [], ◌∷◌, length, take, Option, Some, None, is_some, Result, Ok, Err, if◌then◌else◌, slice_index_or, slice_set}
+use Rattle.std.specs.Prelude.{◌≡◌, ℕ, zero, suc, ◌&&◌, ◌==◌, Bool, true, not, nat_lt, List, [], ◌∷◌, length, take, Option, Some, None, is_some, Result, Ok, Err, if◌then◌else◌, slice_index_or, slice_set}
 use Rattle.std.specs.Borrow.{Bor}
 use Rattle.std.specs.Str.{bytes_eq, is_utf8}
 use Rattle.std.specs.List.{list_any, list_all}
@@ -7,6 +7,7 @@ use Rattle.gateway_words.specs.Places.{Position, start_of}
 use Rattle.gateway_words.specs.Reading.{◌>>=◌}
 use Rattle.mp_codec.specs.declared.fault.FormatFault.{FormatFault}
 use Rattle.mp_codec.specs.declared.fault.FaultKind.TheVariants as kind
+use Rattle.mp_codec.specs.declared.head.Head.TheVariants as head
 use Rattle.mp_codec.specs.Value.{str_len, map_len, whole}
 use Rattle.mp_codec.specs.Fault.{fault_here}
 use Rattle.mp_codec.specs.Keys.{has_bytes}
@@ -55,6 +56,12 @@ text_or_wrong None here there = Err (fault_here kind.Wrong here)
 -- the text that must stand here
 unfoldable pub text_from : Position → Read (List ℕ)
 text_from here = head_from here >>= λ h. text_or_wrong (str_len h.0) here h.1
+
+-- a str of these bytes stands here, and there is the position behind it
+pub record IsStr (bytes : List ℕ) (here there : Position) : Type 0 where
+  pub mid : Position
+  pub head : head_from here ≡ Ok (head.Str (length bytes), mid)
+  pub payload : bytes_from (length bytes) mid ≡ Ok (bytes, there)
 
 -- the bytes of this length that begin there, or none of a value of another kind that stands here
 abbrev pub bytes_or_skipped : Option ℕ → Position → Position → Read (Option (List ℕ))

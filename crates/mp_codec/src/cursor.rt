@@ -1,16 +1,17 @@
 //! A cursor over bytes: heads, payloads, and whole values that are skipped.
 
-ghost use Rattle.std.specs.Prelude.{◌≡◌, ◌+◌, ◌<◌, ◌^◌, ◌==◌, ◌≤◌, List, ℕ, length, Ok, IsOk, IfOk, IfErr, OnOk, OnErr, IsErrOf};
-ghost use Rattle.gateway_words.specs.Places.{Position, Between, start_of};
+ghost use Rattle.std.specs.Prelude.{◌≡◌, ◌+◌, ◌<◌, ◌^◌, ◌==◌, ◌≤◌, List, ℕ, length, Ok, IfSome, IsOk, IfOk, IfErr, OnOk, OnErr, IsErrOf};
+ghost use Rattle.gateway_words.specs.Places.{Position, Between, start_of, behind};
 ghost use Rattle.mp_codec.specs.declared.head.Head.{Head};
 ghost use Rattle.mp_codec.specs.declared.fault.FormatFault.{FormatFault};
 ghost use Rattle.mp_codec.specs.Value.{Value};
+ghost use Rattle.mp_codec.specs.Maps.{IsStr};
 ghost use Rattle.mp_codec.specs.Span.{IsIn};
 ghost use Rattle.mp_codec.specs.Spelling.{HeadLies, Lies, Breaks, short};
 ghost use Rattle.mp_codec.specs.Reading.{Steps, Passes, NodePasses, head_fault, head_from, bytes_from, node_from, values_from};
 
 use crate::fault::{FaultKind, FormatFault};
-use crate::head::{Head, head_in};
+use crate::head::{Head, head_in, short_str_in};
 use std::marker::Model;
 
 /// A place in some bytes. Contracts see the place and the bytes from there on.
@@ -153,6 +154,28 @@ impl<'a> Cursor<'a> {
             }
             Err(fault) => Err(fault),
         }
+    }
+
+    // The bytes of a str that stands here whole behind a head of one or two bytes, and how many bytes
+    // the value takes.
+    #[inline(always)]
+    pub(crate) fn short_str(&self) -> Option<(&'a [u8], usize)>
+        ensures exact { IfSome result (λ s. IsStr s.0.now self.now (behind s.1 self.now)) }
+        ensures within { IfSome result (λ s. s.1 ≤ length self.now.left) }
+    {
+        let rest = self.rest();
+        let (len, head) = short_str_in(rest)?;
+        let end = usize::from(head) + usize::from(len);
+        Some((rest.get(usize::from(head)..end)?, end))
+    }
+
+    // Passes over so many bytes.
+    #[inline(always)]
+    pub(crate) fn pass(&mut self, len: usize)
+        requires { len ≤ length self.old.left }
+        ensures { self.new ≡ behind len self.old }
+    {
+        self.at += len;
     }
 
     // The cursor behind the next value, found by counting the values that are still owed. Each of

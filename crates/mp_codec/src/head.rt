@@ -1,6 +1,7 @@
 //! What a value begins with: its first byte, and the bytes behind it that belong to its head.
 
-ghost use Rattle.std.specs.Prelude.{◌≡◌, ◌≤◌, ◌<◌, ◌^◌, ◌+◌, true, length, IfOk};
+ghost use Rattle.std.specs.Prelude.{◌≡◌, ◌≤◌, ◌<◌, ◌^◌, ◌+◌, true, length, Ok, IfOk, IfSome};
+ghost use Rattle.mp_codec.specs.declared.head.Head.{Head};
 ghost use Rattle.mp_codec.specs.Format.{big_endian, form, is_width, is_readable, is_readable_form, head_behind, head_of_form, head_at, part_count, payload_len};
 
 use crate::fault::FaultKind;
@@ -116,9 +117,23 @@ pub(crate) fn head_in(bytes: &[u8]) -> Result<(Head, usize), FaultKind>
     }
 }
 
-#[tactic(auto, unfolding(crate::specs::Format::form))]
+// The length of a str and that of its head, where a head of one or two bytes stands at the front.
+// Most texts have such a head, and no value of `Head` has to be made of it.
+#[inline(always)]
+#[tactic(auto, unfolding(crate::specs::Format::form, crate::specs::Format::head_at))]
+pub(crate) fn short_str_in(bytes: &[u8]) -> Option<(u8, u8)>
+    ensures { IfSome result (λ s. head_at bytes.now ≡ Ok (Head.Str s.0, s.1)) }
+{
+    match bytes {
+        [first @ 0xa0..=0xbf, ..] => Some((*first - 0xa0, 1)),
+        [0xd9, len, ..] => Some((*len, 2)),
+        _ => None,
+    }
+}
+
 // The head that begins with this byte, where these bytes stand behind it, and how many bytes it
 // takes. Each form is a constant where it is read, so that code is made for it alone.
+#[tactic(auto, unfolding(crate::specs::Format::form))]
 fn head_by_first_byte(first: u8, rest: &[u8]) -> Result<(Head, usize), FaultKind>
     ensures exact { result ≡ head_of_form (form first) rest.now }
     ensures within { IfOk result (λ taken. taken.1 ≤ length rest.now + 1) }

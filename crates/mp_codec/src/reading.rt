@@ -63,6 +63,12 @@ impl<'a> Cursor<'a> {
 
         ensures exact { Steps (λ text. text.now) self.old self.new result (text_from self.old) }
     {
+        if let Some((bytes, len)) = self.short_str()
+            && let Some(text) = utf8_text(bytes)
+        {
+            self.pass(len);
+            return Ok(text);
+        }
         let mut ahead = self.copy();
         let text = text_ahead(&mut ahead)?;
         *self = ahead;
@@ -86,6 +92,10 @@ impl<'a> Cursor<'a> {
 
         ensures exact { Steps bytes_behind self.old self.new result (str_from self.old) }
     {
+        if let Some((bytes, len)) = self.short_str() {
+            self.pass(len);
+            return Ok(Some(bytes));
+        }
         let mut ahead = self.copy();
         let bytes = str_or_skip_ahead(&mut ahead)?;
         *self = ahead;

@@ -1,0 +1,60 @@
+-- A str that stands whole at a position is read there.
+use Rattle.std.proofs.Common.{◌≡◌, refl, sym, ◌∙◌, ap, ℕ, ◌+◌, ◌-◌, ◌≤◌, Bool, true, false, List, length, take, drop, arith}
+use Rattle.std.specs.Prelude.{Result, Ok, Err, Option, Some, None, nat_lt, if◌then◌else◌, slice_range}
+use Rattle.std.specs.Str.{is_utf8}
+use Rattle.std.proofs.lemmas.Bool.{le-ltb}
+use Rattle.std.proofs.lemmas.List.{drop-drop, length-drop}
+use Rattle.gateway_words.specs.Places.{Position, behind}
+use Rattle.gateway_words.specs.Reading.{◌>>=◌}
+use Rattle.mp_codec.specs.declared.fault.FaultKind.{FaultKind}
+use Rattle.mp_codec.specs.declared.fault.FaultKind.TheVariants as kind
+use Rattle.mp_codec.specs.declared.head.Head.{Head}
+use Rattle.mp_codec.specs.declared.head.Head.TheVariants as head
+use Rattle.mp_codec.specs.Format.{head_at}
+use Rattle.mp_codec.specs.Value.{str_len}
+use Rattle.mp_codec.specs.Spelling.{short}
+use Rattle.mp_codec.specs.Fault.{fault_here}
+use Rattle.mp_codec.specs.Reading.{placed_head, head_from, bytes_from}
+use Rattle.mp_codec.specs.Maps.{Read, IsStr, text_or_wrong, text_from, bytes_or_skipped, str_from}
+use Rattle.mp_codec.proofs.BindLemmas.{bind_ok}
+use Rattle.mp_codec.proofs.PlaceLemmas.{position}
+
+-- two steps are one step
+step_twice : (k n : ℕ) (here : Position) → behind n (behind k here) ≡ behind (k + n) here
+step_twice k n here =
+    let at : here.at + k + n ≡ here.at + (k + n) = omega arith in
+    ap (λ (m : ℕ). position m (drop n (drop k here.left))) at ∙ ap (λ (left : List ℕ). position (here.at + (k + n)) left) (drop-drop n k here.left)
+
+-- where the head of a str stands, and behind it its bytes
+pub str_here : (bytes : List ℕ) (n k : ℕ) (here : Position) → head_at here.left ≡ Ok (head.Str n, k) → k + n ≤ length here.left → bytes ≡ slice_range here.left k (k + n) → length bytes ≡ n
+    → IsStr bytes here (behind (k + n) here)
+unfolding head_from bytes_from
+str_here bytes n k here at fits are len =
+    let mid : Position = behind k here in
+    let rest : length (drop k here.left) ≡ length here.left - k = length-drop k here.left in
+    let enough : nat_lt (length (drop k here.left)) n ≡ false = le-ltb (length (drop k here.left)) n (omega arith) in
+    let size : k + n - k ≡ n = omega arith in
+    let taken : take n (drop k here.left) ≡ bytes = ap (λ (m : ℕ). take m (drop k here.left)) (sym size) ∙ sym are in
+    let read : bytes_from n mid ≡ Ok (bytes, behind (k + n) here) =
+    ap (λ (b : Bool). if b then Err (short mid) else Ok (take n mid.left, behind n mid)) enough
+    ∙ ap (λ (t : List ℕ). Ok (t, behind n mid)) taken ∙ ap (λ (p : Position). Ok (bytes, p)) (step_twice k n here) in
+    record {
+      mid = mid;
+      head = ap (λ (r : Result (Head × ℕ) FaultKind). placed_head r here) at ∙ ap (λ (m : ℕ). Ok (head.Str m, mid)) (sym len);
+      payload = ap (λ (m : ℕ). bytes_from m mid) len ∙ read;
+    }
+
+-- it is read as a str
+pub str_read : (bytes : List ℕ) (here there : Position) → IsStr bytes here there → str_from here ≡ Ok (Some bytes, there)
+unfolding str_from
+str_read bytes here there s =
+    bind_ok (head_from here) (λ h. bytes_or_skipped (str_len h.0) here h.1) (head.Str (length bytes), s.mid) s.head
+    ∙ bind_ok (bytes_from (length bytes) s.mid) (λ t. Ok (Some t.0, t.1)) (bytes, there) s.payload
+
+-- and as text, where it is text
+pub text_read : (bytes : List ℕ) (here there : Position) → IsStr bytes here there → is_utf8 bytes ≡ true → text_from here ≡ Ok (bytes, there)
+unfolding text_from
+text_read bytes here there s u =
+    bind_ok (head_from here) (λ h. text_or_wrong (str_len h.0) here h.1) (head.Str (length bytes), s.mid) s.head
+    ∙ bind_ok (bytes_from (length bytes) s.mid) (λ t. if is_utf8 t.0 then Ok t else Err (fault_here kind.NotText here)) (bytes, there) s.payload
+    ∙ ap (λ (b : Bool). if b then Ok (bytes, there) else Err (fault_here kind.NotText here)) u
