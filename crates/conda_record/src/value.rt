@@ -14,6 +14,9 @@ use hex::FromHex;
 use mp_codec::{Cursor, FormatFault, Head, Span, utf8_text};
 use std::alloc::Global;
 
+// For so many spans of a list memory is taken before they are read, since its length is only claimed.
+const MOST_AT_ONCE: usize = 64;
+
 // The span of the text that stands at the cursor, or None of a value of another kind.
 #[tactic(auto, unfolding(crate::specs::Reading::optional_text_from))]
 pub(crate) fn span_or_skip(cur: &mut Cursor<'_>) -> Result<Option<Span>, FormatFault>
@@ -67,7 +70,7 @@ fn spans(alloc: Global, cur: &mut Cursor<'_>, len: u32) -> Result<Vec<Span>, Rec
     ensures exact { Gives (λ spans. (map (text_at bytes) spans.items, cur.new)) fault_of result
         (texts_at len cur.old) }
 {
-    let mut spans = Vec::new(alloc);
+    let mut spans = Vec::with_capacity(alloc, (len as usize).min(MOST_AT_ONCE))?;
     for _ in 0..len {
         spans.push(cur.text_span()?)?;
     }

@@ -16,6 +16,9 @@ use mp_codec::{Cursor, FaultKind, FormatFault};
 use std::alloc::Global;
 use std::collections::BTreeSet;
 
+// For so many rows memory is taken before they are read, since their number is only claimed.
+const MOST_AT_ONCE: usize = 64;
+
 // The rows of the map of files that stands at the cursor.
 #[tactic(auto, unfolding(mp_codec::specs::Maps::map_from, crate::specs::Reading::files_from))]
 pub(crate) fn files(
@@ -46,7 +49,7 @@ fn rows_of_files(
     ensures exact { Gives (λ rows. (rows_at bytes rows.items, cur.new)) fault_of result
         (files_after conda files [] cur.old) }
 {
-    let mut rows = Vec::new(alloc);
+    let mut rows = Vec::with_capacity(alloc, (files as usize).min(MOST_AT_ONCE))?;
     let mut names = BTreeSet::new(alloc);
     for _ in 0..files {
         let name = new_name(cur, &mut names)?;

@@ -9,7 +9,7 @@ use Rattle.conda_record.proofs.value.spans.Goals as goal
 
 pub returns-in_err-text_span-clause-exact : goal.returns-in_err-text_span-clause-exact
 returns-in_err-text_span-clause-exact g c =
-    let p = err_from_is_err_and c.from_residual.result c.from_residual.ensures.1 in
+    let p = err_from_is_err_and c.from_residual-in_err-text_span.result c.from_residual-in_err-text_span.ensures.1 in
     rw (p.1, p.2) (sym c.loop.invariant.0 ∙ text_stops c.args.len c.loop.counter (map (text_at g.bytes) c.loop.spans.items) _ c.loop.cur c.loop-test.true c.in_err-text_span.ensures.exact.0)
 
 pub loop-preserved : goal.loop-preserved

@@ -18,7 +18,7 @@ use Rattle.shard_file.proofs.files.rows_of_files.Goals as goal
 
 pub returns-in_err-name-clause-exact : goal.returns-in_err-name-clause-exact
 returns-in_err-name-clause-exact g c =
-    let p = err_from_is_err_and c.from_residual.result c.from_residual.ensures.1 in
+    let p = err_from_is_err_and c.from_residual-in_err-name.result c.from_residual-in_err-name.ensures.1 in
     rw (p.1, p.2) (fault_along c.in_err-name.field-0.0 _ (λ (f : FormatFault). files_after c.args.conda c.args.files [] c.args.cur.now ≡ Err f)
     (λ f e. sym c.loop.invariant.0 ∙ name_stops c.args.conda (has_name c.loop.names) (rows_at g.bytes c.loop.rows.items) c.loop.invariant.1 c.args.files c.loop.counter f c.loop.cur c.loop-test.true e)
     c.in_err-name.ensures.exact)
