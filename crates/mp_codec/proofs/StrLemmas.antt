@@ -1,6 +1,7 @@
 -- A str that stands whole at a position is read there.
 use Rattle.std.proofs.Common.{◌≡◌, refl, sym, ◌∙◌, ap, ℕ, ◌+◌, ◌-◌, ◌≤◌, Bool, true, false, List, length, take, drop, arith}
-use Rattle.std.specs.Prelude.{Result, Ok, Err, Option, Some, None, nat_lt, if◌then◌else◌, slice_range}
+use Rattle.std.specs.Prelude.{Result, Ok, Err, Option, Some, None, is_some, MatchOption, nat_lt, if◌then◌else◌, slice_range}
+use Rattle.std.specs.Borrow.{Bor}
 use Rattle.std.specs.Str.{is_utf8}
 use Rattle.std.proofs.lemmas.Bool.{le-ltb}
 use Rattle.std.proofs.lemmas.List.{drop-drop, length-drop}
@@ -58,3 +59,8 @@ text_read bytes here there s u =
     bind_ok (head_from here) (λ h. text_or_wrong (str_len h.0) here h.1) (head.Str (length bytes), s.mid) s.head
     ∙ bind_ok (bytes_from (length bytes) s.mid) (λ t. if is_utf8 t.0 then Ok t else Err (fault_here kind.NotText here)) (bytes, there) s.payload
     ∙ ap (λ (b : Bool). if b then Ok (bytes, there) else Err (fault_here kind.NotText here)) u
+
+-- what is found to be text is text
+pub text_there : (bytes : List ℕ) (o : Option (Bor (List ℕ))) → MatchOption o (is_utf8 bytes ≡ false) (λ t. (is_utf8 bytes ≡ true) × (t.now ≡ bytes)) → is_some o ≡ true → is_utf8 bytes ≡ true
+text_there bytes (Some t) m some = m.0
+text_there bytes None m some = absurd (cc)

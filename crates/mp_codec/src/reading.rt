@@ -1,7 +1,7 @@
 //! Readers of one value by its kind, for the maps of records, shards and indexes.
 
-ghost use Rattle.std.specs.Prelude.{◌≡◌, List, ℕ, true, false, Some, IfOk, IfErr, OnErr, MatchOption};
-ghost use Rattle.std.specs.Str.{is_utf8};
+ghost use Rattle.std.specs.Prelude.{◌≡◌, ◌<◌, List, ℕ, true, false, Some, IfOk, IfErr, OnErr, MatchOption};
+ghost use Rattle.std.specs.Str.{is_utf8, IsAscii};
 ghost use Rattle.gateway_words.specs.Places.{Position};
 ghost use Rattle.mp_codec.specs.declared.head.Head.{Head};
 ghost use Rattle.mp_codec.specs.declared.fault.FormatFault.{FormatFault};
@@ -18,8 +18,21 @@ use crate::fault::{FaultKind, FormatFault};
 use crate::head::Head;
 use std::str;
 
-/// The bytes as text, or None where they aren't UTF-8.
+/// The bytes as text, or None where they aren't UTF-8. Most texts are ASCII, which costs no branch
+/// a byte.
+#[inline(always)]
 pub fn utf8_text(bytes: &[u8]) -> Option<&str>
+    ensures { MatchOption result (is_utf8 bytes.now ≡ false)
+        (λ t. (is_utf8 bytes.now ≡ true) × (t.now ≡ bytes.now)) }
+{
+    if all_bits(bytes) < 0x80 {
+        return Some(unsafe { str::from_utf8_unchecked(bytes) });
+    }
+    tested_text(bytes)
+}
+
+// The bytes as text, or None where they aren't UTF-8.
+fn tested_text(bytes: &[u8]) -> Option<&str>
     ensures { MatchOption result (is_utf8 bytes.now ≡ false)
         (λ t. (is_utf8 bytes.now ≡ true) × (t.now ≡ bytes.now)) }
 {
@@ -27,6 +40,18 @@ pub fn utf8_text(bytes: &[u8]) -> Option<&str>
         Ok(text) => Some(text),
         Err(_) => None,
     }
+}
+
+// The bits that are set in one of the bytes or more.
+#[inline(always)]
+fn all_bits(bytes: &[u8]) -> u8
+    ensures { result < 128 → IsAscii bytes.now }
+{
+    let mut bits = 0;
+    for byte in bytes {
+        bits |= *byte;
+    }
+    bits
 }
 
 impl<'a> Cursor<'a> {
@@ -80,6 +105,7 @@ impl<'a> Cursor<'a> {
     ///
     /// `Short` and `Reserved` where the value breaks off, as `skip` does. After a fault the cursor
     /// has not moved.
+    #[inline(always)]
     pub fn str_or_skip(&mut self) -> Result<Option<&'a [u8]>, FormatFault>
         // What is taken is a value with these bytes, or one that is no str.
         ensures found { IfOk result (λ bytes.

@@ -43,6 +43,7 @@ fn part(bytes: &[u8], span: Span) -> Option<&[u8]>
 impl<'a> Cursor<'a> {
     /// Where the text that must stand here begins and ends, in the bytes that the cursor goes over;
     /// the cursor goes behind it. Refuses as `text` does.
+    #[inline(always)]
     pub fn text_span(&mut self) -> Result<Span, FormatFault>
         ghost bytes: { List ℕ }
         requires { IsIn bytes self.old }
@@ -52,12 +53,19 @@ impl<'a> Cursor<'a> {
 
         ensures exact { Steps (text_at bytes) self.old self.new result (text_from self.old) }
     {
+        if let Some((bytes, len)) = self.short_str()
+            && utf8_text(bytes).is_some()
+        {
+            self.pass(len);
+            return Ok(self.span_before(bytes.len()));
+        }
         let text = self.text()?;
         Ok(self.span_before(text.len()))
     }
 
     /// The span of the last bytes before the cursor, so many, or of all of them where they are
     /// fewer.
+    #[inline(always)]
     pub fn span_before(&self, len: usize) -> Span
         ensures { result ≡ record { start = self.now.at - len; end = self.now.at } }
     {
