@@ -1,4 +1,5 @@
 pub mod Format
+pub mod Held
 pub mod Value
 pub mod Writing
 pub mod Spelling
