@@ -4,4 +4,5 @@ pub mod GroupLemmas
 pub mod ShardLemmas
 pub mod IndexLemmas
 pub mod LawLemmas
+pub mod UniqueLemmas
 pub mod StandingLemmas
