@@ -5,4 +5,6 @@ pub mod ShardLemmas
 pub mod IndexLemmas
 pub mod LawLemmas
 pub mod UniqueLemmas
+pub mod MemberLemmas
+pub mod AscendLemmas
 pub mod StandingLemmas

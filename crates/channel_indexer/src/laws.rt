@@ -1,9 +1,10 @@
 //! Laws over the definitions, each the contract of a function with no body.
 
 ghost use Rattle.std.specs.Prelude.{◌≡◌, List, ℕ, Some};
-ghost use Rattle.std.specs.List.{flat_map};
-ghost use Rattle.std.specs.List.Sorted.{IsPermutation};
+ghost use Rattle.std.specs.List.{All, flat_map};
+ghost use Rattle.std.specs.List.Sorted.{IsPermutation, IsStrictlySortedBy};
 ghost use Rattle.shard_file.specs.Rows.{Row};
+ghost use Rattle.shard_file.specs.Writing.{row_cmp};
 ghost use Rattle.channel_store.specs.Store.{Files};
 ghost use Rattle.channel_indexer.specs.declared.fault.IndexFault.{IndexFault};
 ghost use Rattle.channel_indexer.specs.Groups.{Group, AreGroupsOf, InOrder};
@@ -26,6 +27,13 @@ pub fn rows_have_one_order()
 pub fn rows_have_one_grouping()
     ensures { (rows : List Row) (groups more : List Group) → AreGroupsOf rows groups
         → AreGroupsOf rows more → groups ≡ more }
+{}
+
+/// The rows of each group that a file says ascend by their file names, those of packages first. So
+/// what is too long of a shard is a length or the number of its rows, and never their order.
+pub fn rows_of_groups_ascend()
+    ensures { (bytes : List ℕ) (stood : List Row) (groups : List Group)
+        → SaysGroups bytes stood groups → All (λ g. IsStrictlySortedBy row_cmp g.rows) groups }
 {}
 
 /// Some bytes say at most one list of records and one list of groups.
