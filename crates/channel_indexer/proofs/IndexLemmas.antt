@@ -91,21 +91,25 @@ place-fails (Some told) place bytes fault.Memory stands fails = tt
 prepared-puts : (place : List ℕ) (groups : List Group) (prepared : Prepared) → ArePrepared place groups prepared → puts_of prepared ≡ index_puts place groups
 prepared-puts place groups prepared are = λ i. are.shards i ++ are.index i ∷ []
 
+-- a place whose file has a plan can be indexed
+pub plan-indexable : (told : Files) (place bytes : List ℕ) (made : Plan) → get told (input_name place) ≡ Some bytes → length bytes ≤ most_input
+    → (plan : IsPlanOf place bytes made) → IsIndexable place told plan.stood plan.groups
+plan-indexable told place bytes made stands short plan = record {
+  bytes = bytes;
+  stands = stands;
+  short = short;
+  says = plan.says;
+  fit = plan.plan.prepared.fit;
+  index_fit = plan.plan.prepared.index_fit;
+  readings = plan.plan.prepared.readings;
+}
+
 -- a stop within the puts
 pub place-stops : (old middle new : Option Files) (place bytes : List ℕ) (made : Plan) → StandsAt place bytes old → IsPlanOf place bytes made
     → middle ≡ old → StopsWithin (puts_of made.prepared) middle new → IfSome old (λ told. StopsAt place told new)
 place-stops None middle new place bytes made stands plan same stop = tt
 place-stops (Some told) middle new place bytes made stands plan same stop =
-    let indexable : IsIndexable place told plan.stood plan.groups = record {
-      bytes = bytes;
-      stands = stands.0;
-      short = stands.1;
-      says = plan.says;
-      fit = plan.plan.prepared.fit;
-      index_fit = plan.plan.prepared.index_fit;
-      readings = plan.plan.prepared.readings;
-    } in
-    within plan.stood plan.groups indexable (record {
+    within plan.stood plan.groups (plan-indexable told place bytes made stands.0 stands.1 plan) (record {
       done = stop.done;
       files = stop.files ∙ (λ i. with_puts (take stop.done (prepared-puts place plan.groups made.prepared plan.plan.prepared i)) (same i));
     })

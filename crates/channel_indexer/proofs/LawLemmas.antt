@@ -39,7 +39,7 @@ kept name other (r ∷ rs) apart = go (bytes_eq name (name_in r)) refl (kept nam
         later ∙ sym (ap (λ b. cond b (r ∷ filter (is_named other) rs) (filter (is_named other) rs)) (ap (bytes_eq other) (sym same) ∙ apart))
     go false e later = ap (λ l. cond (bytes_eq other (name_in r)) (r ∷ l) l) later
 
-itself : (name : List ℕ) → bytes_eq name name ≡ true
+pub itself : (name : List ℕ) → bytes_eq name name ≡ true
 itself name = (bytes_eq-Decides name name).1 refl
 
 -- rows of which none has a name are none
@@ -48,7 +48,7 @@ none-left [] h = refl
 none-left (r ∷ rs) h = absurd (let some : r ∷ filter (is_named (name_in r)) rs ≡ [] = ap (λ b. cond b (r ∷ filter (is_named (name_in r)) rs) (filter (is_named (name_in r)) rs)) (sym (itself (name_in r))) ∙ h (name_in r) in cc)
 
 -- a name that comes before all names of groups has no group
-no-group : (name : List ℕ) (groups : List Group) → AllByRecursion (λ other. slice_cmp nat_cmp name other ≡ Less) (map (λ (g : Group). g.name) groups) → rows_under name groups ≡ []
+pub no-group : (name : List ℕ) (groups : List Group) → AllByRecursion (λ other. slice_cmp nat_cmp name other ≡ Less) (map (λ (g : Group). g.name) groups) → rows_under name groups ≡ []
 no-group name [] h = refl
 no-group name (g ∷ gs) h =
     ap (λ b. cond b g.rows (rows_under name gs)) (sym (is_eq-slice_cmp name g.name) ∙ ap is_eq h.0) ∙ no-group name gs h.1

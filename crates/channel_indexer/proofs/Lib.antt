@@ -4,4 +4,7 @@ pub mod GroupLemmas
 pub mod ShardLemmas
 pub mod IndexLemmas
 pub mod LawLemmas
+pub mod UniqueLemmas
+pub mod MemberLemmas
+pub mod AscendLemmas
 pub mod StandingLemmas

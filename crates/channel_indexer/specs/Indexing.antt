@@ -66,6 +66,10 @@ pub record IsIndexed (place : List ℕ) (told : Files) (new : Option Files) (sum
   pub kept : AreApart (map (shard_put place) groups) → summary.kept ≡ count_standing place told groups
   pub written : summary.kept + summary.written ≡ summary.names
 
+-- this fault was answered, or the store failed or memory ran out
+abbrev pub AnswersFault : IndexFault → Result Summary IndexFault → Type 0
+AnswersFault f result = MatchResult result (λ summary. ⊥) (λ e. IfSome (stored_fault e) (λ g. g ≡ f))
+
 -- where indexing stopped: nothing was changed, or some of the puts were made, from the first one on
 pub data StopsAt (place : List ℕ) (told : Files) (new : Option Files) : Type 0 where
   before : new ≡ Some told → StopsAt place told new

@@ -1,5 +1,5 @@
 -- A place whose index has all its shards (docs/FORMATS.md, "Indexing").
-use Rattle.std.specs.Prelude.{◌≡◌, ◌⊎◌, ℕ, List, ◌++◌, Option, Some, None, codes}
+use Rattle.std.specs.Prelude.{◌≡◌, ◌⊎◌, ℕ, List, ◌++◌, Some, None, codes}
 use Rattle.std.specs.List.{All}
 use Rattle.std.specs.FinMap as finite
 use Rattle.digest_gate.specs.declared.digest.Digest.{Digest}

@@ -1,10 +1,12 @@
 //! Indexing a subdir of a channel.
 
-ghost use Rattle.std.specs.Prelude.{◌≡◌, ◌≤◌, true, IfOk, IfErr, IfSome, IsErrOf};
+ghost use Rattle.std.specs.Prelude.{◌≡◌, ◌≤◌, true, List, None, IfOk, IfErr, IfSome, IsErrOf};
 ghost use Rattle.gateway_words.specs.Causes.{Rose};
 ghost use Rattle.channel_store.specs.Names.{is_place};
+ghost use Rattle.shard_file.specs.Rows.{Row};
+ghost use Rattle.channel_indexer.specs.Groups.{Group};
 ghost use Rattle.channel_indexer.specs.Store.{stored_fault, fault_of_store};
-ghost use Rattle.channel_indexer.specs.Indexing.{GivesInput, IsIndexed, PlaceFault, StopsAt};
+ghost use Rattle.channel_indexer.specs.Indexing.{AnswersFault, GivesInput, IsIndexable, IsIndexed, PlaceFault, StopsAt};
 
 use crate::fault::{IndexFault, Large};
 use crate::plan::{Plan, planned};
@@ -47,6 +49,12 @@ pub fn index_subdir<S: Store>(
     // A fault other than the store's stands in the stored bytes.
     ensures fault { IfErr result (λ e. IfSome (stored_fault e)
         (λ f. IfSome (S.files store.old) (λ told. PlaceFault place.now told f))) }
+    // A fault that stands there is answered, unless memory runs out or the store fails.
+    ensures broken { IfSome (S.files store.old) (λ told. (f : IndexFault)
+        → PlaceFault place.now told f → AnswersFault f result) }
+    // A place with nothing wrong is indexed, unless memory runs out or the store fails.
+    ensures only { IfSome (S.files store.old) (λ told. (stood : List Row) (groups : List Group)
+        → IsIndexable place.now told stood groups → IfErr result (λ e. stored_fault e ≡ None)) }
     // Whatever is answered, some puts were made, from the first one on, and nothing else changed.
     ensures stop { IfSome (S.files store.old)
         (λ told. StopsAt place.now told (S.files store.new)) }

@@ -18,7 +18,10 @@ mod shards;
 
 pub use fault::{IndexFault, Large};
 pub use index::{Summary, index_subdir};
-pub use laws::{a_stop_keeps_the_place, groups_have_the_rows};
+pub use laws::{
+    a_file_says_one_indexing, a_place_has_one_fault, a_stop_keeps_the_place, groups_have_the_rows,
+    rows_have_one_grouping, rows_have_one_order, rows_of_groups_ascend,
+};
 
 #[cfg(test)]
 mod tests;

@@ -1,1 +1,2 @@
+mod LeadLemmas
 mod TextLemmas

@@ -3,10 +3,12 @@ use Rattle.std.specs.Prelude.{◌≡◌, ◌≢◌, ℕ, List, [], ◌∷◌, �
 use Rattle.std.specs.Io.KnownBytes.{append_known}
 use Rattle.gateway_words.specs.Ascii.{newline}
 use Rattle.channel_store.specs.Store.{Files}
+use Rattle.shard_file.specs.Rows.{Row}
 use Rattle.channel_indexer.specs.declared.fault.IndexFault.{IndexFault}
 use Rattle.channel_indexer.specs.declared.index.Summary.{Summary}
 use Rattle.channel_indexer.specs.Store.{stored_fault}
-use Rattle.channel_indexer.specs.Indexing.{IsIndexed, PlaceFault, StopsAt}
+use Rattle.channel_indexer.specs.Groups.{Group}
+use Rattle.channel_indexer.specs.Indexing.{IsIndexed, IsIndexable, PlaceFault, StopsAt}
 use Rattle.link_io.specs.Transfer.{AppendsPart}
 use Rattle.gateway_tool.specs.declared.note.Note.{Note}
 use Rattle.gateway_tool.specs.declared.note.Note.TheVariants as note
@@ -31,6 +33,19 @@ pub record IsBadPlace (place : List ℕ) (old : Option Files) (said : Note) : Ty
   pub stands : IfSome old (λ told. PlaceFault place told fault)
   pub noted : said ≡ note.Indexing fault
 
+-- the statuses of index that have other causes than the file of the place: want of memory, a failed store
+abbrev pub apart_from_place : List ℕ
+apart_from_place = OUT_OF_MEMORY ∷ STORE_FAULT ∷ []
+
+-- the status and the note that a place leads to, where nothing comes from apart
+pub record PlaceLeadsTo (place : List ℕ) (told : Files) (status : ℕ) (said : Note) : Type 0 where
+  -- a place with nothing wrong is indexed, and its line is written, unless the write fails
+  pub indexable : (stood : List Row) (groups : List Group) → IsIndexable place told stood groups
+      → IsOneOf (OK ∷ WRITE_FAULT ∷ apart_from_place) status
+  -- a place in which a fault stands is a bad file, and the note has that fault
+  pub faulty : (f : IndexFault) → PlaceFault place told f → IsOneOf (BAD_FILE ∷ apart_from_place) status
+  pub says : (f : IndexFault) → PlaceFault place told f → status ≡ BAD_FILE → said ≡ note.Indexing f
+
 -- what index answered, and what became of the store's files and of the output
 pub record IndexAnswers (place : List ℕ) (old new : Option Files) (before now : Option (List ℕ)) (status : ℕ) (said : Note) : Type 0 where
   -- the files and the line
@@ -42,4 +57,5 @@ pub record IndexAnswers (place : List ℕ) (old new : Option Files) (before now 
   -- a bad file
   pub bad_file : status ≡ BAD_FILE → IsBadPlace place old said
   pub noted : status ≢ BAD_FILE → said ≡ note.Nothing
+  pub leads : IfSome old (λ told. PlaceLeadsTo place told status said)
   pub statuses : IsOneOf (OK ∷ WRITE_FAULT ∷ OUT_OF_MEMORY ∷ STORE_FAULT ∷ BAD_FILE ∷ []) status
