@@ -3,6 +3,7 @@
 
 use crate::record::PackageRecord;
 use crate::refusal::RecordRefusal;
+use crate::spans::RecordSpans;
 use crate::view::RecordView;
 use mp_codec::FaultKind::{self, Missing, NotText, Repeated, Reserved, Short, Wrong};
 use mp_codec::{Cursor, FormatFault};
@@ -230,6 +231,27 @@ fn reads_the_required_keys_alone(rt: HostRuntime) -> Result<(), Fail> {
     let record = read(rt.alloc(), &mut cursor)?;
     assert!(rt; cursor.is_end());
     assert!(rt; has_required_alone(record.view()));
+    Ok(())
+}
+
+// The spans of the record that some bytes begin with.
+fn spans(alloc: Global, bytes: &[u8]) -> Result<RecordSpans, Fail> {
+    match RecordSpans::read(alloc, &mut Cursor::new(bytes)) {
+        Ok(spans) => Ok(spans),
+        Err(refusal) => Err(refusal.into()),
+    }
+}
+
+#[test]
+fn a_record_is_shown_and_copied_from_its_spans(rt: HostRuntime) -> Result<(), Fail> {
+    let required = spans(rt.alloc(), REQUIRED)?;
+    assert!(rt; has_required_alone(required.view(REQUIRED)));
+    for (bytes, written) in WRITTEN {
+        let spans = spans(rt.alloc(), bytes)?;
+        let mut out = Vec::new(rt.alloc());
+        PackageRecord::copy(rt.alloc(), spans.view(bytes))?.write(&mut out)?;
+        assert_eq!(rt; out.as_slice(), written);
+    }
     Ok(())
 }
 

@@ -7,6 +7,7 @@ use crate::fault::FaultKind::{NotText, Reserved, Short, Wrong};
 use crate::fault::{FaultKind, FormatFault};
 use crate::head::Head;
 use crate::reading::utf8_text;
+use crate::span::Span;
 use crate::text::Text;
 use crate::writing::{put_array, put_bin, put_map, put_str, put_uint};
 use std::alloc::{AllocError, Global};
@@ -542,6 +543,69 @@ fn text_is_utf_8_or_none(rt: HostRuntime) -> Result<(), Fail> {
 fn a_text_is_copied_into_memory_of_its_own(rt: HostRuntime) -> Result<(), Fail> {
     let text = Text::copy(rt.alloc(), "numpy \u{e9}")?;
     assert_eq!(rt; text.as_str(), "numpy \u{e9}");
+    Ok(())
+}
+
+// ---- spans
+
+// Bytes that begin with a text, and where the text stands in them, or what is wrong and where.
+const SPANS: [(&[u8], Result<(usize, usize), Fault>); 10] = [
+    (b"\xa0", Ok((1, 1))),
+    (b"\xa5numpy\xa1x", Ok((1, 6))),
+    (b"\xa2\xc3\xa9", Ok((1, 3))),
+    (b"\xd9\x05numpy", Ok((2, 7))),
+    (b"\xda\x00\x05numpy", Ok((3, 8))),
+    (b"\xdb\x00\x00\x00\x05numpy!", Ok((5, 10))),
+    (b"\xa6numpy", Err((Short, 6))),
+    (b"\xd9\x05nump", Err((Short, 6))),
+    (b"\xa2\xc3\x28", Err((NotText, 0))),
+    (b"\xc4\x01n", Err((Wrong, 0))),
+];
+
+fn first_span(bytes: &[u8]) -> Result<(usize, usize), Fault> {
+    let span = in_parts(Cursor::new(bytes).text_span())?;
+    Ok((span.start, span.end))
+}
+
+#[test]
+fn a_text_is_told_by_its_span(rt: HostRuntime) -> Result<(), Fail> {
+    for (bytes, expected) in &SPANS {
+        assert_eq!(rt; first_span(bytes), *expected, "{bytes:?}");
+    }
+    Ok(())
+}
+
+#[test]
+fn a_span_shows_its_text_or_none(rt: HostRuntime) -> Result<(), Fail> {
+    let bytes: &[u8] = b"\xa5numpy\xc3\xa9";
+    let cases = [
+        (1, 6, "numpy"),
+        (6, 8, "\u{e9}"),
+        (3, 3, ""),
+        (6, 7, ""),
+        (7, 9, ""),
+        (5, 4, ""),
+    ];
+    for (start, end, text) in &cases {
+        let span = Span {
+            start: *start,
+            end: *end,
+        };
+        assert_eq!(rt; span.text(bytes), *text, "{start} {end}");
+    }
+    Ok(())
+}
+
+#[test]
+fn a_cursor_gives_its_bytes_and_the_span_before_it(rt: HostRuntime) -> Result<(), Fail> {
+    let bytes: &[u8] = b"\xa1n\x07";
+    let mut cursor = Cursor::new(bytes);
+    assert_eq!(rt; in_parts(cursor.text()), Ok("n"));
+    assert_eq!(rt; cursor.bytes(), bytes);
+    let span = cursor.span_before(1);
+    assert_eq!(rt; (span.start, span.end), (1, 2));
+    let all = cursor.span_before(9);
+    assert_eq!(rt; (all.start, all.end), (0, 2));
     Ok(())
 }
 
