@@ -248,9 +248,12 @@ fn a_record_is_shown_and_copied_from_its_spans(rt: HostRuntime) -> Result<(), Fa
     assert!(rt; has_required_alone(required.view(REQUIRED)));
     for (bytes, written) in WRITTEN {
         let spans = spans(rt.alloc(), bytes)?;
+        let copy = PackageRecord::copy(rt.alloc(), spans.view(bytes))?;
         let mut out = Vec::new(rt.alloc());
-        PackageRecord::copy(rt.alloc(), spans.view(bytes))?.write(&mut out)?;
-        assert_eq!(rt; out.as_slice(), written);
+        if copy.is_writable() {
+            copy.write(&mut out)?;
+        }
+        assert_eq!(rt; out.as_slice(), written, "{bytes:?}");
     }
     Ok(())
 }
