@@ -250,7 +250,8 @@ fn record_here(alloc: Global, cur: &mut Cursor<'_>) -> Result<RecordSpans, Recor
     ghost bytes: { List ℕ }
     requires { IsIn bytes cur.old }
     ensures within { IsIn bytes cur.new }
-    ensures exact { Gives (λ r. (fields_at bytes r, cur.new)) fault_of result (record_from cur.old) }
+    ensures exact { Gives (λ r. (fields_at bytes r, cur.new)) fault_of result
+        (record_from cur.old) }
 {
     let pairs = cur.map_len()?;
     pairs_of_record(alloc, cur, pairs)
