@@ -1,12 +1,11 @@
 -- A str that stands whole at a position is read there.
-use Rattle.std.proofs.Common.{◌≡◌, refl, sym, ◌∙◌, ap, ℕ, ◌+◌, ◌-◌, ◌≤◌, Bool, true, false, List, length, take, drop, arith}
+use Rattle.std.proofs.Common.{◌≡◌, sym, ◌∙◌, ap, ℕ, ◌+◌, ◌-◌, ◌≤◌, Bool, true, false, List, length, take, drop, arith}
 use Rattle.std.specs.Prelude.{Result, Ok, Err, Option, Some, None, is_some, MatchOption, nat_lt, if◌then◌else◌, slice_range}
 use Rattle.std.specs.Borrow.{Bor}
 use Rattle.std.specs.Str.{is_utf8}
 use Rattle.std.proofs.lemmas.Bool.{le-ltb}
 use Rattle.std.proofs.lemmas.List.{drop-drop, length-drop}
 use Rattle.gateway_words.specs.Places.{Position, behind}
-use Rattle.gateway_words.specs.Reading.{◌>>=◌}
 use Rattle.mp_codec.specs.declared.fault.FaultKind.{FaultKind}
 use Rattle.mp_codec.specs.declared.fault.FaultKind.TheVariants as kind
 use Rattle.mp_codec.specs.declared.head.Head.{Head}
@@ -16,7 +15,7 @@ use Rattle.mp_codec.specs.Value.{str_len}
 use Rattle.mp_codec.specs.Spelling.{short}
 use Rattle.mp_codec.specs.Fault.{fault_here}
 use Rattle.mp_codec.specs.Reading.{placed_head, head_from, bytes_from}
-use Rattle.mp_codec.specs.Maps.{Read, IsStr, text_or_wrong, text_from, bytes_or_skipped, str_from}
+use Rattle.mp_codec.specs.Maps.{IsStr, text_or_wrong, text_from, bytes_or_skipped, str_from}
 use Rattle.mp_codec.proofs.BindLemmas.{bind_ok}
 use Rattle.mp_codec.proofs.PlaceLemmas.{position}
 

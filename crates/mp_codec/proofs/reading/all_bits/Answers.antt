@@ -1,6 +1,5 @@
-use Rattle.std.proofs.Common.{◌≡◌, ap, ℕ, ◌+◌, ◌<◌, ◌≤◌, inl, inr, length, get_or, arith}
+use Rattle.std.proofs.Common.{◌≡◌, ap, ℕ, inl, inr, length, get_or, arith}
 use Rattle.std.specs.Prelude.{slice_index}
-use Rattle.std.specs.Int.Bits.{bit_or}
 use Rattle.std.proofs.lemmas.Bool.{cases_lt}
 use Rattle.std.proofs.lemmas.List.{get_or_past}
 use Rattle.std.proofs.lemmas.Nat.{le_or_l, le_or_r}

@@ -1,7 +1,6 @@
 use Rattle.std.proofs.Common.{◌≡◌, sym, ◌∙◌, ap, List, ℕ, length}
 use Rattle.std.specs.Prelude.{Ok}
 use Rattle.gateway_words.specs.Places.{Position, behind}
-use Rattle.mp_codec.specs.declared.span.Span.{Span}
 use Rattle.mp_codec.specs.Maps.{text_from}
 use Rattle.mp_codec.specs.Span.{text_at}
 use Rattle.mp_codec.proofs.StrLemmas.{text_read, text_there}
