@@ -8,14 +8,14 @@ use Rattle.std.specs.Option.{option_map_or}
 use Rattle.std.specs.Ordering.{nat_cmp, is_eq}
 use Rattle.std.specs.Cmp.Lexicographic.{slice_cmp}
 use Rattle.std.specs.Str.{bytes_eq}
-use Rattle.std.specs.List.{All, AllByRecursion, filter}
+use Rattle.std.specs.List.{All, AllByRecursion, filter, slice_get}
 use Rattle.std.specs.List.Sorted.{IsStrictlySortedBy}
 use Rattle.std.specs.Map.{lookup, keys_of, values_of}
 use Rattle.std.specs.BTreeMap.{BTreeMap, get_by_text}
 use Rattle.std.proofs.lemmas.Slice.Eq.{bytes_eq-Decides}
 use Rattle.std.proofs.Math.ListN.{get_or-map}
 use Rattle.std.proofs.lemmas.List.{length-map}
-use Rattle.std.proofs.lemmas.List.Elements.{All-map}
+use Rattle.std.proofs.lemmas.List.Elements.{All-map, All-cons, All-append, filter-append}
 use Rattle.std.proofs.lemmas.Cmp.{eq_by_cmp_equiv}
 use Rattle.std.proofs.lemmas.Map.Keys.{IsDistinct-from_sorted}
 use Rattle.std.proofs.lemmas.Map.Views.{All-values_from_lookup, All-keys_from_lookup}
@@ -23,7 +23,7 @@ use Rattle.std.proofs.lemmas.Map.Text.{is_eq-slice_cmp}
 use Rattle.conda_name.specs.Name.{IsName}
 use Rattle.shard_file.specs.Rows.{Row}
 use Rattle.channel_indexer.specs.Groups.{Group, rows_under, is_named, IsNamed, name_in}
-use Rattle.channel_indexer.specs.Grouped.{group_of}
+use Rattle.channel_indexer.specs.Grouped.{group_of, IsRun}
 
 abbrev pub Entries : Type 0
 Entries = List (String Global × Vec Row Global)
@@ -99,3 +99,63 @@ entries-named m named =
     (All-map (λ (g : Group). IsName g.name) group_of m.entries (λ k d h.
     subst (λ (q : String Global). IsName (string_bytes q)) (get_or-map first m.entries k d)
     (All-keys_from_lookup (eq_by_cmp_equiv string_cmp_total) (λ (q : String Global). IsName (string_bytes q)) m.entries (λ q found. named (string_bytes q) found) k (first d) (rw length-map h))))
+
+-- ---- runs
+
+-- one row is a run
+pub one_run : (run : List Row) (r : Row) → run ≡ [] → IsRun (run ++ r ∷ [])
+one_run [] r e = (name_in r, All-cons (λ (x : Row). name_in x ≡ name_in r) r [] refl (λ k d h. absurd (omega arith)))
+one_run (x ∷ rest) r e = absurd (cc)
+
+-- a row of the name of a run's first row goes on with it
+pub run-on : (run : List Row) (first r : Row) → IsRun run → slice_get run 0 ≡ Some first → name_in first ≡ name_in r → IsRun (run ++ r ∷ [])
+run-on [] first r is at same = absurd (cc)
+run-on (x ∷ rest) first r is at same =
+    let front : x ≡ first = cc (at) in
+    let name : name_in r ≡ is.0 = sym same ∙ ap name_in (sym front) ∙ is.1 0 x (omega arith) in
+    (is.0, All-append (λ (y : Row). name_in y ≡ is.0) (x ∷ rest) (r ∷ []) is.1 (All-cons (λ (y : Row). name_in y ≡ is.0) r [] name (λ k d h. absurd (omega arith))))
+
+-- the rows of a run under its name
+run-all : (name n : List ℕ) (run : List Row) → bytes_eq name n ≡ true → All (λ r. name_in r ≡ n) run → filter (is_named name) run ≡ run
+run-all name n [] e all = refl
+run-all name n (r ∷ rest) e all =
+    ap (λ (b : Bool). cond b (r ∷ filter (is_named name) rest) (filter (is_named name) rest)) (ap (bytes_eq name) (all 0 r (omega arith)) ∙ e)
+    ∙ ap (λ (l : List Row). r ∷ l) (run-all name n rest e (λ k d h. all (suc k) d (omega arith)))
+
+-- and under another name
+run-none : (name n : List ℕ) (run : List Row) → bytes_eq name n ≡ false → All (λ r. name_in r ≡ n) run → filter (is_named name) run ≡ []
+run-none name n [] e all = refl
+run-none name n (r ∷ rest) e all =
+    ap (λ (b : Bool). cond b (r ∷ filter (is_named name) rest) (filter (is_named name) rest)) (ap (bytes_eq name) (all 0 r (omega arith)) ∙ e)
+    ∙ run-none name n rest e (λ k d h. all (suc k) d (omega arith))
+
+-- the rows of a run under a name
+pub run-under : (name : List ℕ) (run : List Row) (first : Row) (key : List ℕ) → IsRun run → slice_get run 0 ≡ Some first → key ≡ name_in first
+    → filter (is_named name) run ≡ cond (bytes_eq name key) run []
+run-under name [] first key is at e = absurd (cc)
+run-under name (x ∷ rest) first key is at e =
+    let front : x ≡ first = cc (at) in
+    let n : is.0 ≡ key = sym (is.1 0 x (omega arith)) ∙ ap name_in front ∙ sym e in
+    go (bytes_eq name is.0) refl ∙ ap (λ (k : List ℕ). cond (bytes_eq name k) (x ∷ rest) []) n
+  where
+    go : (b : Bool) → bytes_eq name is.0 ≡ b → filter (is_named name) (x ∷ rest) ≡ cond (bytes_eq name is.0) (x ∷ rest) []
+    go true b = run-all name is.0 (x ∷ rest) b is.1 ∙ sym (ap (λ (b : Bool). cond b (x ∷ rest) []) b)
+    go false b = run-none name is.0 (x ∷ rest) b is.1 ∙ sym (ap (λ (b : Bool). cond b (x ∷ rest) []) b)
+
+-- a run with a first row is not empty
+pub run-some : (run : List Row) (first : Row) → slice_get run 0 ≡ Some first → run ≢ []
+run-some [] first at = absurd (cc)
+run-some (x ∷ rest) first at = λ e. absurd (cc)
+
+-- a row goes behind the run and behind all rows so far
+pub run-pushed : (name : List ℕ) (at run so_far : List Row) (r : Row) → at ++ filter (is_named name) run ≡ filter (is_named name) so_far
+    → at ++ filter (is_named name) (run ++ r ∷ []) ≡ filter (is_named name) (so_far ++ r ∷ [])
+run-pushed name at run so_far r h =
+    ap (λ (l : List Row). at ++ l) (filter-append (is_named name) run (r ∷ []))
+    ∙ sym (append_assoc at (filter (is_named name) run) (filter (is_named name) (r ∷ [])))
+    ∙ ap (λ (l : List Row). l ++ filter (is_named name) (r ∷ [])) h
+    ∙ sym (filter-append (is_named name) so_far (r ∷ []))
+
+-- no run is left
+pub run-ended : (name : List ℕ) (at run all : List Row) → run ≡ [] → at ++ filter (is_named name) run ≡ all → at ≡ all
+run-ended name at run all none h = sym (append-nil at) ∙ ap (λ (l : List Row). at ++ filter (is_named name) l) (sym none) ∙ h

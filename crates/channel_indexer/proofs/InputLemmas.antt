@@ -45,6 +45,11 @@ rows-on conda file d rest done r is =
     ap (λ (first : Result Row IndexFault). (first >>= λ r. rows_of conda rest >>= λ rs. Ok (r ∷ rs)) >>= λ rs. Ok (done ++ rs)) is
     ∙ behind done r (rows_of conda rest)
 
+-- behind no rows a reading is what it was
+pub behind_nothing : (rows : Result (List Row) IndexFault) → (rows >>= λ rs. Ok ([] ++ rs)) ≡ rows
+behind_nothing (Ok rs) = refl
+behind_nothing (Err e) = refl
+
 -- ---- what the rows of repodata.json are
 
 -- a reading behind another one that is Ok, or that has this fault

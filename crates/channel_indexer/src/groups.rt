@@ -1,9 +1,11 @@
 //! The records of each package name.
 
-ghost use Rattle.std.specs.Prelude.{◌≡◌, map, IfOk, OnOk};
+ghost use Rattle.std.specs.Prelude.{◌≡◌, ◌++◌, ◌∷◌, [], map, IfOk, OnOk, IsTrue};
+ghost use Rattle.std.specs.BTreeMap.{IsOrdered};
+ghost use Rattle.std.specs.String.{string_cmp};
 ghost use Rattle.std.specs.List.{All};
 ghost use Rattle.channel_indexer.specs.Groups.{AreGroupsOf, InOrder, IsNamed};
-ghost use Rattle.channel_indexer.specs.Grouped.{group_of};
+ghost use Rattle.channel_indexer.specs.Grouped.{group_of, Adds, HaveRows, IsRun};
 
 use shard_file::FileRecord;
 use std::alloc::{AllocError, Global};
@@ -25,10 +27,63 @@ pub(crate) fn grouped(
     requires { All IsNamed records.items }
     ensures { IfOk result (λ groups. AreGroupsOf records.items (map group_of groups.entries)) }
 {
-    let mut groups: BTreeMap<String, Vec<FileRecord>> = BTreeMap::new(alloc);
+    let mut groups = BTreeMap::new(alloc);
+    let mut run = Vec::new(alloc);
     for record in records {
-        let name = record.value.view().name().to_ascii_lowercase(alloc)?;
-        groups.entry(name)?.or_default().push(record)?;
+        make_way(alloc, &mut groups, &mut run, &record)?;
+        run.push(record)?;
     }
+    add_run(alloc, &mut groups, &mut run)?;
     Ok(groups)
+}
+
+#[tactic(auto, using(crate::proofs::GroupLemmas::one_run))]
+// Adds the run to the groups, unless the record goes on with it.
+fn make_way(
+    alloc: Global,
+    groups: &mut BTreeMap<String, Vec<FileRecord>>,
+    run: &mut Vec<FileRecord>,
+    record: &FileRecord,
+) -> Result<(), AllocError>
+    requires run { IsRun run.old.items }
+    requires ordered { IsOrdered string_cmp groups.old }
+    requires some { HaveRows groups.old }
+    ensures adds { OnOk result (Adds groups.old run.old.items groups.new run.new.items) }
+    ensures run { OnOk result (IsRun (run.new.items ++ «record».now ∷ [])) }
+{
+    if goes_on(run, record) {
+        return Ok(());
+    }
+    add_run(alloc, groups, run)
+}
+
+// Whether the record's package name is written as that of the first record of the run.
+fn goes_on(run: &[FileRecord], record: &FileRecord) -> bool
+    requires { IsRun run.now }
+    ensures { IsTrue result → IsRun (run.now ++ «record».now ∷ []) }
+{
+    match run.first() {
+        Some(first) => first.value.view().name() == record.value.view().name(),
+        None => false,
+    }
+}
+
+// Adds the records of a run, which are of one package, to the group of their name, and leaves none.
+fn add_run(
+    alloc: Global,
+    groups: &mut BTreeMap<String, Vec<FileRecord>>,
+    run: &mut Vec<FileRecord>,
+) -> Result<(), AllocError>
+    requires run { IsRun run.old.items }
+    requires ordered { IsOrdered string_cmp groups.old }
+    requires some { HaveRows groups.old }
+    ensures adds { OnOk result (Adds groups.old run.old.items groups.new run.new.items) }
+    ensures none { OnOk result (run.new.items ≡ []) }
+{
+    let Some(first) = run.first() else {
+        return Ok(());
+    };
+    let name = first.value.view().name().to_ascii_lowercase(alloc)?;
+    groups.entry(name)?.or_default().append(run)?;
+    Ok(())
 }

@@ -9,7 +9,7 @@ ghost use Rattle.channel_indexer.specs.Store.{stored_fault, fault_of_store};
 ghost use Rattle.channel_indexer.specs.Indexing.{AnswersFault, GivesInput, IsIndexable, IsIndexed, PlaceFault, StopsAt};
 
 use crate::fault::{IndexFault, Large};
-use crate::plan::{Plan, planned};
+use crate::plan::planned;
 use crate::putting::put_prepared;
 use crate::shards::name_at;
 use channel_store::{Got, Store, StoreRefusal};
@@ -64,16 +64,12 @@ pub fn index_subdir<S: Store>(
         → Rose (S.faults store.old) (S.faults store.new) }
 {
     let bytes = input(alloc, store, place)?;
-    let Plan {
-        prepared,
-        names,
-        files,
-    } = planned(alloc, place, bytes)?;
-    let kept = put_prepared(alloc, store, &prepared).map_err(of_store)?;
+    let plan = planned(alloc, place, bytes)?;
+    let kept = put_prepared(alloc, store, &plan.prepared).map_err(of_store)?;
     Ok(Summary {
-        names,
-        files,
-        written: names - kept,
+        names: plan.names,
+        files: plan.files,
+        written: plan.names - kept,
         kept,
     })
 }

@@ -1,12 +1,12 @@
 //! The records of `repodata.json`.
 
-ghost use Rattle.std.specs.Prelude.{◌≡◌, ◌++◌, OnOk, OnErr, vec_len};
+ghost use Rattle.std.specs.Prelude.{◌≡◌, ◌++◌, ◌<◌, ◌^◌, OnOk, OnErr, vec_len};
 ghost use Rattle.serde_json.specs.View.{view, members_view};
 ghost use Rattle.serde_json.specs.Find.{get};
 ghost use Rattle.gateway_words.specs.Reading.{Gives};
 ghost use Rattle.channel_indexer.specs.Input.{fault_of, json_in, members_of, row_of, row_if_named, rows_of, rows_in, rows_from};
 ghost use Rattle.conda_name.specs.Name.{name_of};
-ghost use Rattle.channel_indexer.specs.Seen.{members_lent};
+ghost use Rattle.channel_indexer.specs.Seen.{members_lent, behind};
 
 use crate::fault::IndexFault;
 use conda_name::{Name, NameRefusal};
@@ -17,15 +17,27 @@ use serde_json::{Map, Value};
 use shard_file::FileRecord;
 use std::alloc::Global;
 
+/// What `repodata.json` says, and the value of JSON that says it.
+#[derive(Drop)]
+pub(crate) struct Input {
+    pub(crate) records: Vec<FileRecord>,
+    pub(crate) value: Value,
+}
+
 /// The records that the bytes of `repodata.json` say, those of `packages` first, each part in the
-/// order of its file names. The bytes are given back before the records are made.
+/// order of its file names. The bytes are given back before the records are made. The value goes
+/// with them: its pieces are many and small, and an allocator that gets them back joins them all
+/// for the next large piece that it is asked for.
 #[tactic(auto, unfolding(crate::specs::Input::rows_from))]
-pub(crate) fn records(alloc: Global, bytes: Vec<u8>) -> Result<Vec<FileRecord>, IndexFault>
-    ensures { Gives (λ rows. rows.items) fault_of result (rows_from bytes.items) }
+pub(crate) fn read(alloc: Global, bytes: Vec<u8>) -> Result<Input, IndexFault>
+    ensures { Gives (λ input. input.records.items) fault_of result (rows_from bytes.items) }
 {
     let value = parsed(alloc, &bytes)?;
     drop(bytes);
-    records_in(alloc, &value)
+    Ok(Input {
+        records: records_in(alloc, &value)?,
+        value,
+    })
 }
 
 // The value that the bytes are.
@@ -42,6 +54,7 @@ fn parsed(alloc: Global, bytes: &[u8]) -> Result<Value, IndexFault>
     }
 }
 
+#[tactic(auto, using(crate::proofs::InputLemmas::behind_nothing))]
 // The records of both parts of the value.
 fn records_in(alloc: Global, value: &Value) -> Result<Vec<FileRecord>, IndexFault>
     ensures { Gives (λ rows. rows.items) fault_of result (rows_in (view value.now)) }
@@ -51,9 +64,9 @@ fn records_in(alloc: Global, value: &Value) -> Result<Vec<FileRecord>, IndexFaul
     }
     let packages = part(value, "packages")?;
     let conda = part(value, "packages.conda")?;
-    let mut records = records_of(alloc, packages, false)?;
-    let mut more = records_of(alloc, conda, true)?;
-    records.append(&mut more)?;
+    let mut records = Vec::with_capacity(alloc, count(packages) + count(conda))?;
+    add_records(alloc, &mut records, packages, false)?;
+    add_records(alloc, &mut records, conda, true)?;
     Ok(records)
 }
 
@@ -70,35 +83,46 @@ fn part<'a>(value: &'a Value, key: &str) -> Result<Option<&'a Map<String, Value>
     }
 }
 
-// The records of the files of a part, none where it is missing.
-fn records_of(
-    alloc: Global,
-    files: Option<&Map<String, Value>>,
-    conda: bool,
-) -> Result<Vec<FileRecord>, IndexFault>
-    ensures { Gives (λ rows. rows.items) fault_of result
-        (rows_of conda (members_lent files.entry)) }
+// How many files a part has, none where it is missing.
+fn count(files: Option<&Map<String, Value>>) -> usize
+    ensures { result < 2 ^ 63 }
 {
     match files {
-        Some(files) => records_of_files(alloc, files, conda),
-        None => Ok(Vec::new(alloc)),
+        Some(files) => files.len(),
+        None => 0,
     }
 }
 
-// The records of some files, in the order of their names.
-fn records_of_files(
+// Appends the records of the files of a part, none where it is missing.
+fn add_records(
     alloc: Global,
+    records: &mut Vec<FileRecord>,
+    files: Option<&Map<String, Value>>,
+    conda: bool,
+) -> Result<(), IndexFault>
+    ensures { Gives (λ _. records.new.items) fault_of result
+        (behind records.old.items (rows_of conda (members_lent files.entry))) }
+{
+    match files {
+        Some(files) => add_records_of_files(alloc, records, files, conda),
+        None => Ok(()),
+    }
+}
+
+// Appends the records of some files, in the order of their names.
+fn add_records_of_files(
+    alloc: Global,
+    records: &mut Vec<FileRecord>,
     files: &Map<String, Value>,
     conda: bool,
-) -> Result<Vec<FileRecord>, IndexFault>
-    ensures { Gives (λ rows. rows.items) fault_of result
-        (rows_of conda (members_view files.now.entries)) }
+) -> Result<(), IndexFault>
+    ensures { Gives (λ _. records.new.items) fault_of result
+        (behind records.old.items (rows_of conda (members_view files.now.entries))) }
 {
-    let mut records = Vec::with_capacity(alloc, files.len())?;
     for (file, value) in files {
         records.push(record(alloc, file.as_str(), conda, value)?)?;
     }
-    Ok(records)
+    Ok(())
 }
 
 // The record of one file.

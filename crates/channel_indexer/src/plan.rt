@@ -6,8 +6,9 @@ ghost use Rattle.channel_indexer.specs.Indexing.{Plans};
 
 use crate::fault::IndexFault;
 use crate::groups::{grouped, sort};
-use crate::input::records;
+use crate::input::{Input, read};
 use crate::shards::{Prepared, prepare};
+use serde_json::Value;
 use std::alloc::Global;
 
 /// What is to be put, and of how many names and records it is.
@@ -16,6 +17,8 @@ pub(crate) struct Plan {
     pub(crate) prepared: Prepared,
     pub(crate) names: u64,
     pub(crate) files: u64,
+    // The value that was read. It is given back last.
+    value: Value,
 }
 
 /// The plan of indexing what these bytes of `repodata.json` say.
@@ -23,7 +26,7 @@ pub(crate) fn planned(alloc: Global, place: &str, bytes: Vec<u8>) -> Result<Plan
     requires { is_place place.now ≡ true }
     ensures { Plans place.now bytes.items result }
 {
-    let mut records = records(alloc, bytes)?;
+    let Input { mut records, value } = read(alloc, bytes)?;
     let files = records.len() as u64;
     sort(&mut records)?;
     let groups = grouped(alloc, records)?;
@@ -32,5 +35,6 @@ pub(crate) fn planned(alloc: Global, place: &str, bytes: Vec<u8>) -> Result<Plan
         prepared: prepare(alloc, place, groups)?,
         names,
         files,
+        value,
     })
 }

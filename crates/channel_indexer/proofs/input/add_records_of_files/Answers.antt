@@ -10,7 +10,7 @@ use Rattle.serde_json.specs.View.{view, members_view}
 use Rattle.shard_file.specs.Rows.{Row}
 use Rattle.channel_indexer.specs.Input.{rows_of, row_of}
 use Rattle.channel_indexer.proofs.InputLemmas.{rows-on}
-use Rattle.channel_indexer.proofs.input.records_of_files.Goals as goal
+use Rattle.channel_indexer.proofs.input.add_records_of_files.Goals as goal
 
 pub loop-file-preserved : goal.loop-file-preserved
 loop-file-preserved c =
