@@ -6,7 +6,7 @@ ghost use Rattle.channel_indexer.specs.Indexing.{Plans};
 
 use crate::fault::IndexFault;
 use crate::groups::{grouped, sort};
-use crate::input::{Input, read};
+use crate::input::read;
 use crate::shards::{Prepared, prepare};
 use serde_json::Value;
 use std::alloc::Global;
@@ -26,7 +26,8 @@ pub(crate) fn planned(alloc: Global, place: &str, bytes: Vec<u8>) -> Result<Plan
     requires { is_place place.now ≡ true }
     ensures { Plans place.now bytes.items result }
 {
-    let Input { mut records, value } = read(alloc, bytes)?;
+    let input = read(alloc, bytes)?;
+    let mut records = input.records;
     let files = records.len() as u64;
     sort(&mut records)?;
     let groups = grouped(alloc, records)?;
@@ -35,6 +36,6 @@ pub(crate) fn planned(alloc: Global, place: &str, bytes: Vec<u8>) -> Result<Plan
         prepared: prepare(alloc, place, groups)?,
         names,
         files,
-        value,
+        value: input.value,
     })
 }

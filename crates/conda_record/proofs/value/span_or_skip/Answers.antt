@@ -2,7 +2,6 @@ use Rattle.std.proofs.Common.{◌≡◌, sym, ◌∙◌, ap, subst, ℕ, Bool, L
 use Rattle.std.specs.Prelude.{Ok, Option, Some, None, if◌then◌else◌}
 use Rattle.std.specs.Borrow.{Bor}
 use Rattle.gateway_words.specs.Places.{Position}
-use Rattle.gateway_words.specs.Reading.{◌>>=◌}
 use Rattle.mp_codec.specs.Value.{str_of}
 use Rattle.mp_codec.specs.Fault.{ValueLies}
 use Rattle.mp_codec.specs.Maps.{bytes_behind, str_from}
