@@ -21,3 +21,4 @@ pub mod AppendLemmas
 pub mod ShortestLemmas
 pub mod SpanLemmas
 pub mod StrLemmas
+pub mod AsciiLemmas

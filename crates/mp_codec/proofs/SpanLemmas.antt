@@ -129,3 +129,20 @@ text_in bytes text here there i e =
 -- bytes of a str that are text are at the span before the position behind it
 pub str_spans : (bytes text : List ℕ) (here there : Position) → IsIn bytes here → ValueLies str_of (Some text) here there → is_utf8 text ≡ true → text_at bytes (span_before (length text) there) ≡ text
 str_spans bytes text here there i l u = before_at bytes text there (str_before bytes text l.value here there i l.lies l.is) u
+
+-- where a span ends, and how far before that it begins
+pub record IsBefore (bytes : List ℕ) (span : Span) (there : Position) : Type 0 where
+  pub end : span.end ≡ there.at
+  pub start : span.start + length (text_at bytes span) ≡ span.end
+
+-- the span of a text that was read is where it was read
+pub text_place : (bytes text : List ℕ) (here there : Position) (span : Span) → IsIn bytes here → text_from here ≡ Ok (text, there) → span ≡ span_before (length text) there → IsBefore bytes span there
+text_place bytes text here there span i e is =
+    let r : Reads TextFault IsText here text there = judged_reads TextFault IsText here (text_from here) (text_judged here) text there e in
+    let stands : StandsBefore bytes text there = str_before bytes text r.value here there i r.lies r.means.0 in
+    let fits : length text ≤ there.at = stands.fits in
+    let same : text_at bytes span ≡ text = ap (text_at bytes) is ∙ before_at bytes text there stands r.means.1 in
+    let len : length (text_at bytes span) ≡ length text = ap length same in
+    let start : span.start ≡ there.at - length text = ap (λ (s : Span). s.start) is in
+    let end : span.end ≡ there.at = ap (λ (s : Span). s.end) is in
+    record { end = end; start = omega arith }

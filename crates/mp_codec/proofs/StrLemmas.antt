@@ -1,5 +1,5 @@
--- A str that stands whole at a position is read there.
-use Rattle.std.proofs.Common.{◌≡◌, sym, ◌∙◌, ap, ℕ, ◌+◌, ◌-◌, ◌≤◌, Bool, true, false, List, length, take, drop, arith}
+-- A str that stands whole at a position is read there, and so is a number.
+use Rattle.std.proofs.Common.{◌≡◌, sym, ◌∙◌, ap, ℕ, pos, ◌+◌, ◌-◌, ◌^◌, ◌<◌, ◌≤◌, lt-ltb, Bool, true, false, List, length, take, drop, arith}
 use Rattle.std.specs.Prelude.{Result, Ok, Err, Option, Some, None, is_some, MatchOption, nat_lt, if◌then◌else◌, slice_range}
 use Rattle.std.specs.Borrow.{Bor}
 use Rattle.std.specs.Str.{is_utf8}
@@ -11,11 +11,11 @@ use Rattle.mp_codec.specs.declared.fault.FaultKind.TheVariants as kind
 use Rattle.mp_codec.specs.declared.head.Head.{Head}
 use Rattle.mp_codec.specs.declared.head.Head.TheVariants as head
 use Rattle.mp_codec.specs.Format.{head_at}
-use Rattle.mp_codec.specs.Value.{str_len}
+use Rattle.mp_codec.specs.Value.{str_len, whole}
 use Rattle.mp_codec.specs.Spelling.{short}
 use Rattle.mp_codec.specs.Fault.{fault_here}
 use Rattle.mp_codec.specs.Reading.{placed_head, head_from, bytes_from}
-use Rattle.mp_codec.specs.Maps.{IsStr, text_or_wrong, text_from, bytes_or_skipped, str_from}
+use Rattle.mp_codec.specs.Maps.{IsStr, text_or_wrong, text_from, bytes_or_skipped, str_from, number_or_skipped, number_from}
 use Rattle.mp_codec.proofs.BindLemmas.{bind_ok}
 use Rattle.mp_codec.proofs.PlaceLemmas.{position}
 
@@ -63,3 +63,12 @@ text_read bytes here there s u =
 pub text_there : (bytes : List ℕ) (o : Option (Bor (List ℕ))) → MatchOption o (is_utf8 bytes ≡ false) (λ t. (is_utf8 bytes ≡ true) × (t.now ≡ bytes)) → is_some o ≡ true → is_utf8 bytes ≡ true
 text_there bytes (Some t) m some = m.0
 text_there bytes None m some = absurd (cc)
+
+-- ---- numbers
+
+-- a number without a sign that stands at a position is read there
+pub number_read : (n len : ℕ) (here : Position) → n < 2 ^ 64 → head_at here.left ≡ Ok (head.Int (pos n), len) → number_from here ≡ Ok (Some n, behind len here)
+unfolding head_from number_from
+number_read n len here small at =
+    bind_ok (head_from here) (λ h. number_or_skipped (whole h.0) here h.1) (head.Int (pos n), behind len here) (ap (λ (r : Result (Head × ℕ) FaultKind). placed_head r here) at)
+    ∙ ap (λ (b : Bool). number_or_skipped (if b then Some n else None) here (behind len here)) (lt-ltb n (2 ^ 64) small)

@@ -1,17 +1,17 @@
 //! A cursor over bytes: heads, payloads, and whole values that are skipped.
 
-ghost use Rattle.std.specs.Prelude.{◌≡◌, ◌+◌, ◌<◌, ◌^◌, ◌==◌, ◌≤◌, List, ℕ, length, Ok, IfSome, IsOk, IfOk, IfErr, OnOk, OnErr, IsErrOf};
+ghost use Rattle.std.specs.Prelude.{◌≡◌, ◌+◌, ◌<◌, ◌^◌, ◌==◌, ◌≤◌, List, ℕ, length, Ok, Some, IfSome, IsOk, IfOk, IfErr, OnOk, OnErr, IsErrOf};
 ghost use Rattle.gateway_words.specs.Places.{Position, Between, start_of, behind};
 ghost use Rattle.mp_codec.specs.declared.head.Head.{Head};
 ghost use Rattle.mp_codec.specs.declared.fault.FormatFault.{FormatFault};
 ghost use Rattle.mp_codec.specs.Value.{Value};
-ghost use Rattle.mp_codec.specs.Maps.{IsStr};
+ghost use Rattle.mp_codec.specs.Maps.{IsStr, number_from};
 ghost use Rattle.mp_codec.specs.Span.{IsIn};
 ghost use Rattle.mp_codec.specs.Spelling.{HeadLies, Lies, Breaks, short};
 ghost use Rattle.mp_codec.specs.Reading.{Steps, Passes, NodePasses, head_fault, head_from, bytes_from, node_from, values_from};
 
 use crate::fault::{FaultKind, FormatFault};
-use crate::head::{Head, head_in, short_str_in};
+use crate::head::{Head, head_in, short_str_in, unsigned_in};
 use std::marker::Model;
 
 /// A place in some bytes. Contracts see the place and the bytes from there on.
@@ -167,6 +167,17 @@ impl<'a> Cursor<'a> {
         let (len, head) = short_str_in(rest)?;
         let end = usize::from(head) + usize::from(len);
         Some((rest.get(usize::from(head)..end)?, end))
+    }
+
+    // The number without a sign that stands here, and how many bytes it takes.
+    #[inline(always)]
+    pub(crate) fn unsigned(&self) -> Option<(u64, usize)>
+        ensures exact { IfSome result
+            (λ n. number_from self.now ≡ Ok (Some n.0, behind n.1 self.now)) }
+        ensures within { IfSome result (λ n. n.1 ≤ length self.now.left) }
+    {
+        let (number, len) = unsigned_in(self.rest())?;
+        Some((number, len))
     }
 
     // Passes over so many bytes.

@@ -1,6 +1,6 @@
 //! What a value begins with: its first byte, and the bytes behind it that belong to its head.
 
-ghost use Rattle.std.specs.Prelude.{◌≡◌, ◌≤◌, ◌<◌, ◌^◌, ◌+◌, true, length, Ok, IfOk, IfSome};
+ghost use Rattle.std.specs.Prelude.{◌≡◌, ◌≤◌, ◌<◌, ◌^◌, ◌+◌, pos, true, length, Ok, IfOk, IfSome};
 ghost use Rattle.mp_codec.specs.declared.head.Head.{Head};
 ghost use Rattle.mp_codec.specs.Format.{big_endian, form, is_width, is_readable, is_readable_form, head_behind, head_of_form, head_at, part_count, payload_len};
 
@@ -127,6 +127,26 @@ pub(crate) fn short_str_in(bytes: &[u8]) -> Option<(u8, u8)>
     match bytes {
         [first @ 0xa0..=0xbf, ..] => Some((*first - 0xa0, 1)),
         [0xd9, len, ..] => Some((*len, 2)),
+        _ => None,
+    }
+}
+
+// The number without a sign that stands at the front, and how many bytes it takes. Most numbers are
+// such, and no value of `Head` has to be made of them.
+#[inline(always)]
+#[tactic(auto, unfolding(crate::specs::Format::form, crate::specs::Format::head_at))]
+pub(crate) fn unsigned_in(bytes: &[u8]) -> Option<(u64, usize)>
+    ensures exact { IfSome result (λ n. head_at bytes.now ≡ Ok (Head.Int (pos n.0), n.1)) }
+    ensures within { IfSome result (λ n. n.1 ≤ length bytes.now) }
+{
+    match bytes {
+        [first @ 0x00..=0x7f, ..] => Some((u64::from(*first), 1)),
+        [0xcc, a, ..] => Some((u64::from(*a), 2)),
+        [0xcd, a, b, ..] => Some((u64::from(u16::from_be_bytes([*a, *b])), 3)),
+        [0xce, a, b, c, d, ..] => Some((u64::from(u32::from_be_bytes([*a, *b, *c, *d])), 5)),
+        [0xcf, a, b, c, d, e, f, g, h, ..] => {
+            Some((u64::from_be_bytes([*a, *b, *c, *d, *e, *f, *g, *h]), 9))
+        }
         _ => None,
     }
 }

@@ -1,6 +1,6 @@
 //! Readers of one value by its kind, for the maps of records, shards and indexes.
 
-ghost use Rattle.std.specs.Prelude.{◌≡◌, ◌<◌, List, ℕ, true, false, Some, IfOk, IfErr, OnErr, MatchOption};
+ghost use Rattle.std.specs.Prelude.{◌≡◌, ◌<◌, ◌≤◌, ◌+◌, List, ℕ, length, true, false, Some, IfOk, IfErr, IsTrue, OnErr, MatchOption, drop, slice_index};
 ghost use Rattle.std.specs.Str.{is_utf8, IsAscii};
 ghost use Rattle.gateway_words.specs.Places.{Position};
 ghost use Rattle.mp_codec.specs.declared.head.Head.{Head};
@@ -18,14 +18,17 @@ use crate::fault::{FaultKind, FormatFault};
 use crate::head::Head;
 use std::str;
 
-/// The bytes as text, or None where they aren't UTF-8. Most texts are ASCII, which costs no branch
-/// a byte.
+// The high bit of each of eight bytes.
+const HIGH_BITS: u64 = 0x8080_8080_8080_8080;
+
+/// The bytes as text, or None where they aren't UTF-8. Most texts are ASCII, which is told eight
+/// bytes at a time.
 #[inline(always)]
 pub fn utf8_text(bytes: &[u8]) -> Option<&str>
     ensures { MatchOption result (is_utf8 bytes.now ≡ false)
         (λ t. (is_utf8 bytes.now ≡ true) × (t.now ≡ bytes.now)) }
 {
-    if all_bits(bytes) < 0x80 {
+    if is_ascii(bytes) {
         return Some(unsafe { str::from_utf8_unchecked(bytes) });
     }
     tested_text(bytes)
@@ -40,6 +43,47 @@ fn tested_text(bytes: &[u8]) -> Option<&str>
         Ok(text) => Some(text),
         Err(_) => None,
     }
+}
+
+// Whether the bytes are ASCII, by words of eight bytes, of which the last may overlap the one before.
+#[inline(always)]
+fn is_ascii(bytes: &[u8]) -> bool
+    ensures { IsTrue result → IsAscii bytes.now }
+{
+    if bytes.len() < 8 {
+        return all_bits(bytes) < 0x80;
+    }
+    let mut at = 0;
+    while at < bytes.len() - 8 {
+        if high_bits(rest_from(bytes, at)) != 0 {
+            return false;
+        }
+        at += 8;
+    }
+    high_bits(rest_from(bytes, bytes.len() - 8)) == 0
+}
+
+// The high bits of the first eight bytes. Where none is set, each of these is ASCII.
+#[inline(always)]
+fn high_bits(bytes: &[u8]) -> u64
+    requires { 8 ≤ length bytes.now }
+    ensures { result ≡ 0 → (k : ℕ) → k < 8 → slice_index bytes.now k < 128 }
+{
+    match bytes {
+        [a, b, c, d, e, f, g, h, ..] => {
+            u64::from_le_bytes([*a, *b, *c, *d, *e, *f, *g, *h]) & HIGH_BITS
+        }
+        _ => unreachable!(),
+    }
+}
+
+// The bytes from a place on.
+#[inline(always)]
+fn rest_from(bytes: &[u8], at: usize) -> &[u8]
+    requires { at ≤ length bytes.now }
+    ensures { result.now ≡ drop at bytes.now }
+{
+    &bytes[at..]
 }
 
 // The bits that are set in one of the bytes or more.
@@ -144,6 +188,10 @@ impl<'a> Cursor<'a> {
 
         ensures exact { Steps (λ number. number) self.old self.new result (number_from self.old) }
     {
+        if let Some((number, len)) = self.unsigned() {
+            self.pass(len);
+            return Ok(Some(number));
+        }
         let mut ahead = self.copy();
         let number = number_or_skip_ahead(&mut ahead)?;
         *self = ahead;

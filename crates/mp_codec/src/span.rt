@@ -1,6 +1,6 @@
 //! Where a text stands in some bytes.
 
-ghost use Rattle.std.specs.Prelude.{◌≡◌, ◌-◌, List, ℕ, OnErr, None, Some, MatchOption};
+ghost use Rattle.std.specs.Prelude.{◌≡◌, ◌+◌, ◌-◌, List, ℕ, length, IfOk, OnErr, None, Some, MatchOption};
 ghost use Rattle.mp_codec.specs.Reading.{Steps};
 ghost use Rattle.mp_codec.specs.Maps.{text_from};
 ghost use Rattle.mp_codec.specs.Span.{IsIn, part_of, text_at};
@@ -48,6 +48,9 @@ impl<'a> Cursor<'a> {
         ghost bytes: { List ℕ }
         requires { IsIn bytes self.old }
 
+        // It ends where the cursor stands now, and begins as many bytes before as the text has.
+        ensures place { IfOk result (λ span. (span.end ≡ self.new.at)
+            × (span.start + length (text_at bytes span) ≡ span.end)) }
         ensures unchanged { OnErr result (self.new ≡ self.old) }
         ensures within { IsIn bytes self.new }
 

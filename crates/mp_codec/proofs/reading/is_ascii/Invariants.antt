@@ -1,0 +1,10 @@
+use Rattle.std.proofs.Common.{ℕ, ◌<◌, ◌-◌, length}
+use Rattle.std.specs.Prelude.{slice_index}
+use Rattle.mp_codec.proofs.reading.is_ascii.Given as goal
+
+-- the bytes so far are ASCII
+abbrev pub invariant-loop-at : goal.invariant-loop-at
+invariant-loop-at l = (i : ℕ) → i < l.at → slice_index l.bytes i < 128
+
+abbrev pub decreases-loop-at : goal.decreases-loop-at
+decreases-loop-at l = length l.bytes - l.at
