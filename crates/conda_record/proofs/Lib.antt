@@ -1,4 +1,4 @@
-pub mod FoundLemmas
+pub mod ReadLemmas
 pub mod TextLoop
 pub mod ValueLemmas
 pub mod RecordLemmas

@@ -13,7 +13,7 @@ use Rattle.conda_record.specs.declared.refusal.RecordRefusal.{RecordRefusal}
 use Rattle.conda_record.specs.declared.refusal.RecordRefusal.TheVariants as refusal
 use Rattle.conda_record.specs.declared.reading.Key.{Key}
 use Rattle.conda_record.specs.declared.reading.Key.TheVariants as key
-use Rattle.conda_record.specs.declared.reading.Found.{Found}
+use Rattle.conda_record.specs.declared.spans.RecordSpans.{RecordSpans}
 use Rattle.conda_record.specs.Texts.{text_in, texts_from}
 use Rattle.conda_record.specs.Digests.{digest_from}
 use Rattle.conda_record.specs.Record.{Fields, record_keys}
@@ -96,15 +96,15 @@ abbrev pub texts_seen : List ℕ → Option (Vec Span Global) → Option (List (
 texts_seen bytes (Some v) = Some (map (text_at bytes) v.items)
 texts_seen bytes None = None
 
--- what was found, by the places of the keys, each text as it stands in these bytes
-abbrev pub known : List ℕ → Found → List (Option Datum)
-known bytes found =
-    datum_in (λ s. Text (text_at bytes s)) found.name ∷ datum_in (λ s. Text (text_at bytes s)) found.version
-    ∷ datum_in (λ s. Text (text_at bytes s)) found.build ∷ datum_in Number found.build_number
-    ∷ datum_in (λ ts. Texts (texts_seen bytes ts)) found.depends ∷ datum_in (λ ts. Texts (texts_seen bytes ts)) found.constrains
-    ∷ datum_in (λ s. OptionalText (option_map (text_at bytes) s)) found.subdir ∷ datum_in Digest found.md5 ∷ datum_in Digest found.sha256
-    ∷ datum_in Number found.size ∷ datum_in Number found.timestamp
-    ∷ datum_in (λ s. OptionalText (option_map (text_at bytes) s)) found.license ∷ datum_in (λ s. OptionalText (option_map (text_at bytes) s)) found.noarch ∷ []
+-- what was read, by the places of the keys, each text as it stands in these bytes
+abbrev pub known : List ℕ → RecordSpans → List (Option Datum)
+known bytes r =
+    datum_in (λ s. Text (text_at bytes s)) r.name ∷ datum_in (λ s. Text (text_at bytes s)) r.version
+    ∷ datum_in (λ s. Text (text_at bytes s)) r.build ∷ datum_in Number r.build_number
+    ∷ datum_in (λ ts. Texts (texts_seen bytes ts)) r.depends ∷ datum_in (λ ts. Texts (texts_seen bytes ts)) r.constrains
+    ∷ datum_in (λ s. OptionalText (option_map (text_at bytes) s)) r.subdir ∷ datum_in Digest r.md5 ∷ datum_in Digest r.sha256
+    ∷ datum_in Number r.size ∷ datum_in Number r.timestamp
+    ∷ datum_in (λ s. OptionalText (option_map (text_at bytes) s)) r.license ∷ datum_in (λ s. OptionalText (option_map (text_at bytes) s)) r.noarch ∷ []
 
 -- ---- the record of what was read
 

@@ -38,24 +38,6 @@ enum Key {
     Other,
 }
 
-// What was read so far: of each key what stands behind it, or None where the key was not met.
-#[derive(Drop)]
-struct Found {
-    name: Option<Span>,
-    version: Option<Span>,
-    build: Option<Span>,
-    build_number: Option<Option<u64>>,
-    depends: Option<Option<Vec<Span>>>,
-    constrains: Option<Option<Vec<Span>>>,
-    subdir: Option<Option<Span>>,
-    md5: Option<Option<[u8; 16]>>,
-    sha256: Option<Option<[u8; 32]>>,
-    size: Option<Option<u64>>,
-    timestamp: Option<Option<u64>>,
-    license: Option<Option<Span>>,
-    noarch: Option<Option<Span>>,
-}
-
 // The known key with these bytes.
 fn key_of(key: Option<&[u8]>) -> Key
     ensures { place result ≡ place_of record_keys (bytes_behind key.entry) }
@@ -94,13 +76,13 @@ fn key_of(key: Option<&[u8]>) -> Key
     }
 }
 
-impl Found {
+impl RecordSpans {
     // Nothing was read.
-    fn new() -> Found
+    fn new() -> RecordSpans
         ghost bytes: { List ℕ }
         ensures { known bytes result ≡ unread record_keys }
     {
-        Found {
+        RecordSpans {
             name: None,
             version: None,
             build: None,
@@ -173,40 +155,61 @@ impl Found {
         Ok(())
     }
 
-    // The record, where the required keys were read.
+    // The end of the record, for which the required keys were read.
     #[tactic(auto, unfolding(mp_codec::specs::Maps::known_end_from, crate::specs::Reading::end_from))]
-    fn finish(self, alloc: Global, cur: &Cursor<'_>) -> Result<RecordSpans, FormatFault>
+    fn end(&self, cur: &Cursor<'_>) -> Result<(), FormatFault>
         ghost bytes: { List ℕ }
-        ensures { Advances (fields_at bytes) cur.now result
-            (end_from (known bytes self) cur.now) }
+        ensures { Advances (λ _. fields_at bytes self.now) cur.now result
+            (end_from (known bytes self.now) cur.now) }
     {
-        let (Some(name), Some(version), Some(build)) = (self.name, self.version, self.build) else {
-            return Err(FormatFault {
-                at: cur.at() as u64,
-                kind: FaultKind::Missing,
-            });
-        };
-        Ok(RecordSpans {
-            name,
-            version,
-            build,
-            build_number: self.build_number.flatten().unwrap_or(0),
-            depends: self.depends.flatten().unwrap_or(Vec::new(alloc)),
-            constrains: self.constrains.flatten().unwrap_or(Vec::new(alloc)),
-            subdir: self.subdir.flatten(),
-            md5: self.md5.flatten(),
-            sha256: self.sha256.flatten(),
-            size: self.size.flatten(),
-            timestamp: self.timestamp.flatten(),
-            license: self.license.flatten(),
-            noarch: self.noarch.flatten(),
+        if self.name.is_some() && self.version.is_some() && self.build.is_some() {
+            return Ok(());
+        }
+        Err(FormatFault {
+            at: cur.at() as u64,
+            kind: FaultKind::Missing,
         })
+    }
+
+    // Reads so many pairs, and the end.
+    fn read_pairs(
+        &mut self,
+        alloc: Global,
+        cur: &mut Cursor<'_>,
+        pairs: u32,
+    ) -> Result<(), RecordRefusal>
+        ghost bytes: { List ℕ }
+        requires within { IsIn bytes cur.old }
+        requires unread { known bytes self.old ≡ unread record_keys }
+        ensures within { IsIn bytes cur.new }
+        ensures exact { Gives (λ _. (fields_at bytes self.new, cur.new)) fault_of result
+            (pairs_from pairs (unread record_keys) cur.old) }
+    {
+        for _ in 0..pairs {
+            let key = next_key(cur, self)?;
+            self.read_value(alloc, cur, key)?;
+        }
+        Ok(self.end(cur)?)
+    }
+
+    // Reads the record that stands at the cursor.
+    #[tactic(auto, unfolding(mp_codec::specs::Maps::map_from, crate::specs::Reading::record_from))]
+    fn read_here(&mut self, alloc: Global, cur: &mut Cursor<'_>) -> Result<(), RecordRefusal>
+        ghost bytes: { List ℕ }
+        requires within { IsIn bytes cur.old }
+        requires unread { known bytes self.old ≡ unread record_keys }
+        ensures within { IsIn bytes cur.new }
+        ensures exact { Gives (λ _. (fields_at bytes self.new, cur.new)) fault_of result
+            (record_from cur.old) }
+    {
+        let pairs = cur.map_len()?;
+        self.read_pairs(alloc, cur, pairs)
     }
 }
 
 // The key that stands at the cursor, which was not read before if it is known.
 #[tactic(auto, unfolding(mp_codec::specs::Maps::known_key_from))]
-fn next_key(cur: &mut Cursor<'_>, found: &Found) -> Result<Key, FormatFault>
+fn next_key(cur: &mut Cursor<'_>, found: &RecordSpans) -> Result<Key, FormatFault>
     ghost bytes: { List ℕ }
     requires { IsIn bytes cur.old }
     ensures within { IsIn bytes cur.new }
@@ -222,39 +225,6 @@ fn next_key(cur: &mut Cursor<'_>, found: &Found) -> Result<Key, FormatFault>
         });
     }
     Ok(key)
-}
-
-// So many pairs of a record, and its end.
-fn pairs_of_record(
-    alloc: Global,
-    cur: &mut Cursor<'_>,
-    pairs: u32,
-) -> Result<RecordSpans, RecordRefusal>
-    ghost bytes: { List ℕ }
-    requires { IsIn bytes cur.old }
-    ensures within { IsIn bytes cur.new }
-    ensures exact { Gives (λ r. (fields_at bytes r, cur.new)) fault_of result
-        (pairs_from pairs (unread record_keys) cur.old) }
-{
-    let mut found = Found::new();
-    for _ in 0..pairs {
-        let key = next_key(cur, &found)?;
-        found.read_value(alloc, cur, key)?;
-    }
-    Ok(found.finish(alloc, cur)?)
-}
-
-// The record that stands at the cursor.
-#[tactic(auto, unfolding(mp_codec::specs::Maps::map_from, crate::specs::Reading::record_from))]
-fn record_here(alloc: Global, cur: &mut Cursor<'_>) -> Result<RecordSpans, RecordRefusal>
-    ghost bytes: { List ℕ }
-    requires { IsIn bytes cur.old }
-    ensures within { IsIn bytes cur.new }
-    ensures exact { Gives (λ r. (fields_at bytes r, cur.new)) fault_of result
-        (record_from cur.old) }
-{
-    let pairs = cur.map_len()?;
-    pairs_of_record(alloc, cur, pairs)
 }
 
 impl RecordSpans {
@@ -282,7 +252,8 @@ impl RecordSpans {
             (record_from cur.old) }
     {
         let mut ahead = cur.copy();
-        let record = record_here(alloc, &mut ahead)?;
+        let mut record = RecordSpans::new();
+        record.read_here(alloc, &mut ahead)?;
         *cur = ahead;
         Ok(record)
     }

@@ -3,6 +3,7 @@
 ghost use Rattle.std.specs.Prelude.{◌≡◌};
 ghost use Rattle.std.specs.Option.{option_copied, option_map};
 ghost use Rattle.mp_codec.specs.Span.{text_at};
+ghost use Rattle.conda_record.specs.Spans.{text_or_empty, spans_of};
 
 use crate::record::PackageRecord;
 use crate::spans::RecordSpans;
@@ -66,7 +67,7 @@ impl<'a> RecordView<'a> {
     {
         match self.shown {
             Shown::Record(record) => record.name.as_str(),
-            Shown::Spans(spans, bytes) => spans.name.text(bytes),
+            Shown::Spans(spans, bytes) => text_or_empty(bytes, spans.name),
         }
     }
 
@@ -76,7 +77,7 @@ impl<'a> RecordView<'a> {
     {
         match self.shown {
             Shown::Record(record) => record.version.as_str(),
-            Shown::Spans(spans, bytes) => spans.version.text(bytes),
+            Shown::Spans(spans, bytes) => text_or_empty(bytes, spans.version),
         }
     }
 
@@ -86,7 +87,7 @@ impl<'a> RecordView<'a> {
     {
         match self.shown {
             Shown::Record(record) => record.build.as_str(),
-            Shown::Spans(spans, bytes) => spans.build.text(bytes),
+            Shown::Spans(spans, bytes) => text_or_empty(bytes, spans.build),
         }
     }
 
@@ -96,7 +97,7 @@ impl<'a> RecordView<'a> {
     {
         match self.shown {
             Shown::Record(record) => record.build_number,
-            Shown::Spans(spans, _) => spans.build_number,
+            Shown::Spans(spans, _) => spans.build_number.flatten().unwrap_or(0),
         }
     }
 
@@ -106,7 +107,7 @@ impl<'a> RecordView<'a> {
     {
         match self.shown {
             Shown::Record(record) => record.depends.len(),
-            Shown::Spans(spans, _) => spans.depends.len(),
+            Shown::Spans(spans, _) => spans_of(&spans.depends).len(),
         }
     }
 
@@ -117,7 +118,7 @@ impl<'a> RecordView<'a> {
     {
         match self.shown {
             Shown::Record(record) => record.depends.get(i).map(|text| text.as_str()),
-            Shown::Spans(spans, bytes) => text_if(bytes, spans.depends.get(i)),
+            Shown::Spans(spans, bytes) => text_if(bytes, spans_of(&spans.depends).get(i).copied()),
         }
     }
 
@@ -127,7 +128,7 @@ impl<'a> RecordView<'a> {
     {
         match self.shown {
             Shown::Record(record) => record.constrains.len(),
-            Shown::Spans(spans, _) => spans.constrains.len(),
+            Shown::Spans(spans, _) => spans_of(&spans.constrains).len(),
         }
     }
 
@@ -138,7 +139,10 @@ impl<'a> RecordView<'a> {
     {
         match self.shown {
             Shown::Record(record) => record.constrains.get(i).map(|text| text.as_str()),
-            Shown::Spans(spans, bytes) => text_if(bytes, spans.constrains.get(i)),
+            Shown::Spans(spans, bytes) => text_if(
+                bytes,
+                spans_of(&spans.constrains).get(i).copied(),
+            ),
         }
     }
 
@@ -148,7 +152,7 @@ impl<'a> RecordView<'a> {
     {
         match self.shown {
             Shown::Record(record) => record.subdir.as_ref().map(|text| text.as_str()),
-            Shown::Spans(spans, bytes) => text_if(bytes, spans.subdir.as_ref()),
+            Shown::Spans(spans, bytes) => text_if(bytes, spans.subdir.flatten()),
         }
     }
 
@@ -158,7 +162,7 @@ impl<'a> RecordView<'a> {
     {
         match self.shown {
             Shown::Record(record) => record.md5,
-            Shown::Spans(spans, _) => spans.md5,
+            Shown::Spans(spans, _) => spans.md5.flatten(),
         }
     }
 
@@ -168,7 +172,7 @@ impl<'a> RecordView<'a> {
     {
         match self.shown {
             Shown::Record(record) => record.sha256,
-            Shown::Spans(spans, _) => spans.sha256,
+            Shown::Spans(spans, _) => spans.sha256.flatten(),
         }
     }
 
@@ -178,7 +182,7 @@ impl<'a> RecordView<'a> {
     {
         match self.shown {
             Shown::Record(record) => record.size,
-            Shown::Spans(spans, _) => spans.size,
+            Shown::Spans(spans, _) => spans.size.flatten(),
         }
     }
 
@@ -188,7 +192,7 @@ impl<'a> RecordView<'a> {
     {
         match self.shown {
             Shown::Record(record) => record.timestamp,
-            Shown::Spans(spans, _) => spans.timestamp,
+            Shown::Spans(spans, _) => spans.timestamp.flatten(),
         }
     }
 
@@ -198,7 +202,7 @@ impl<'a> RecordView<'a> {
     {
         match self.shown {
             Shown::Record(record) => record.license.as_ref().map(|text| text.as_str()),
-            Shown::Spans(spans, bytes) => text_if(bytes, spans.license.as_ref()),
+            Shown::Spans(spans, bytes) => text_if(bytes, spans.license.flatten()),
         }
     }
 
@@ -208,17 +212,37 @@ impl<'a> RecordView<'a> {
     {
         match self.shown {
             Shown::Record(record) => record.noarch.as_ref().map(|text| text.as_str()),
-            Shown::Spans(spans, bytes) => text_if(bytes, spans.noarch.as_ref()),
+            Shown::Spans(spans, bytes) => text_if(bytes, spans.noarch.flatten()),
         }
     }
 }
 
 // The text at a span of some bytes, if there is a span.
-fn text_if<'a>(bytes: &'a [u8], span: Option<&Span>) -> Option<&'a str>
-    ensures { option_copied result ≡ option_map (text_at bytes.now) (option_copied span.entry) }
+fn text_if(bytes: &[u8], span: Option<Span>) -> Option<&str>
+    ensures { option_copied result ≡ option_map (text_at bytes.now) span }
 {
     match span {
         Some(span) => Some(span.text(bytes)),
         None => None,
+    }
+}
+
+// The text at a span of some bytes, or the empty one where there is no span.
+fn text_or_empty(bytes: &[u8], span: Option<Span>) -> &str
+    ensures { result.now ≡ text_or_empty bytes.now span }
+{
+    match span {
+        Some(span) => span.text(bytes),
+        None => "",
+    }
+}
+
+// The spans of a list that was read, or none.
+fn spans_of(list: &Option<Option<Vec<Span>>>) -> &[Span]
+    ensures { result.now ≡ spans_of list.now }
+{
+    match list {
+        Some(Some(spans)) => spans.as_slice(),
+        Some(None) | None => &[],
     }
 }

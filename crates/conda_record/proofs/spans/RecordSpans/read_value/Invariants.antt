@@ -1,4 +1,4 @@
-use Rattle.conda_record.proofs.reading.Found.read_value.Given as goal
+use Rattle.conda_record.proofs.spans.RecordSpans.read_value.Given as goal
 
 abbrev pub ghost-text_span : goal.ghost-text_span
 ghost-text_span g a = g.bytes
