@@ -63,6 +63,10 @@ datum_by optional_text here = optional_text_from here >>= λ t. Ok (OptionalText
 datum_by texts here = texts_from here >>= λ ts. Ok (Texts ts.0, ts.1)
 datum_by (digest n) here = digest_from n here >>= λ d. Ok (Digest d.0, d.1)
 
+-- the same, as what is kept of a key
+abbrev pub kept_by : Kind → Position → Read (Option Datum)
+kept_by kind here = datum_by kind here >>= λ d. Ok (Some d.0, d.1)
+
 -- the value of the known key at this place
 abbrev pub datum_from : ℕ → Position → Read Datum
 datum_from i here = datum_by (slice_index_or kinds i number) here

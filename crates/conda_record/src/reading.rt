@@ -6,11 +6,12 @@ ghost use Rattle.gateway_words.specs.Places.{Position};
 ghost use Rattle.gateway_words.specs.Reading.{Gives};
 ghost use Rattle.mp_codec.specs.Fault.{IsFirstFault, WithBreaks};
 ghost use Rattle.mp_codec.specs.Reading.{Advances};
-ghost use Rattle.mp_codec.specs.Span.{IsIn};
+ghost use Rattle.std.specs.Option.{option_map};
+ghost use Rattle.mp_codec.specs.Span.{IsIn, text_at};
 ghost use Rattle.mp_codec.specs.Maps.{bytes_behind, place_of, unread, known_key_from, known_value_from};
 ghost use Rattle.conda_record.specs.Spans.{fields_at};
 ghost use Rattle.conda_record.specs.Record.{Fields, record_keys, RecordFault, RecordAt};
-ghost use Rattle.conda_record.specs.Reading.{fault_of, place, known, datum_from, end_from, pairs_from, record_from};
+ghost use Rattle.conda_record.specs.Reading.{fault_of, text, number, optional_text, texts, digest, Text, Number, OptionalText, Texts, Digest, datum_in, texts_seen, kept_by, place, known, datum_from, end_from, pairs_from, record_from};
 
 use crate::refusal::RecordRefusal;
 use crate::spans::RecordSpans;
@@ -137,22 +138,21 @@ impl RecordSpans {
             (known_value_from record_keys datum_from (known bytes self.old) (place key) cur.old) }
     {
         match key {
-            Key::Name => self.name = Some(cur.text_span()?),
-            Key::Version => self.version = Some(cur.text_span()?),
-            Key::Build => self.build = Some(cur.text_span()?),
-            Key::BuildNumber => self.build_number = Some(cur.number_or_skip()?),
-            Key::Depends => self.depends = Some(spans_or_skip(alloc, cur)?),
-            Key::Constrains => self.constrains = Some(spans_or_skip(alloc, cur)?),
-            Key::Subdir => self.subdir = Some(span_or_skip(cur)?),
-            Key::Md5 => self.md5 = Some(digest_or_skip(cur)?),
-            Key::Sha256 => self.sha256 = Some(digest_or_skip(cur)?),
-            Key::Size => self.size = Some(cur.number_or_skip()?),
-            Key::Timestamp => self.timestamp = Some(cur.number_or_skip()?),
-            Key::License => self.license = Some(span_or_skip(cur)?),
-            Key::Noarch => self.noarch = Some(span_or_skip(cur)?),
-            Key::Other => cur.skip()?,
+            Key::Name => read_text(cur, &mut self.name),
+            Key::Version => read_text(cur, &mut self.version),
+            Key::Build => read_text(cur, &mut self.build),
+            Key::BuildNumber => read_number(cur, &mut self.build_number),
+            Key::Depends => read_texts(alloc, cur, &mut self.depends),
+            Key::Constrains => read_texts(alloc, cur, &mut self.constrains),
+            Key::Subdir => read_optional_text(cur, &mut self.subdir),
+            Key::Md5 => read_digest(cur, &mut self.md5),
+            Key::Sha256 => read_digest(cur, &mut self.sha256),
+            Key::Size => read_number(cur, &mut self.size),
+            Key::Timestamp => read_number(cur, &mut self.timestamp),
+            Key::License => read_optional_text(cur, &mut self.license),
+            Key::Noarch => read_optional_text(cur, &mut self.noarch),
+            Key::Other => Ok(cur.skip()?),
         }
-        Ok(())
     }
 
     // The end of the record, for which the required keys were read.
@@ -172,6 +172,7 @@ impl RecordSpans {
     }
 
     // Reads so many pairs, and the end.
+    #[inline(never)]
     fn read_pairs(
         &mut self,
         alloc: Global,
@@ -205,6 +206,84 @@ impl RecordSpans {
         let pairs = cur.map_len()?;
         self.read_pairs(alloc, cur, pairs)
     }
+}
+
+// Reads a text that must stand at the cursor. A function for each kind of value, which is no part of
+// another, so that a call makes room for what it needs alone.
+#[inline(never)]
+fn read_text(cur: &mut Cursor<'_>, slot: &mut Option<Span>) -> Result<(), RecordRefusal>
+    ghost bytes: { List ℕ }
+    requires { IsIn bytes cur.old }
+    ensures within { IsIn bytes cur.new }
+    ensures exact { Gives (λ _. (datum_in (λ s. Text (text_at bytes s)) slot.new, cur.new)) fault_of
+        result (kept_by text cur.old) }
+{
+    *slot = Some(cur.text_span()?);
+    Ok(())
+}
+
+// Reads a number, or passes over a value of another kind.
+#[inline(never)]
+fn read_number(cur: &mut Cursor<'_>, slot: &mut Option<Option<u64>>) -> Result<(), RecordRefusal>
+    ghost bytes: { List ℕ }
+    requires { IsIn bytes cur.old }
+    ensures within { IsIn bytes cur.new }
+    ensures exact { Gives (λ _. (datum_in Number slot.new, cur.new)) fault_of result
+        (kept_by number cur.old) }
+{
+    *slot = Some(cur.number_or_skip()?);
+    Ok(())
+}
+
+// Reads a text, or passes over a value of another kind.
+#[inline(never)]
+fn read_optional_text(
+    cur: &mut Cursor<'_>,
+    slot: &mut Option<Option<Span>>,
+) -> Result<(), RecordRefusal>
+    ghost bytes: { List ℕ }
+    requires { IsIn bytes cur.old }
+    ensures within { IsIn bytes cur.new }
+    ensures exact { Gives
+        (λ _. (datum_in (λ s. OptionalText (option_map (text_at bytes) s)) slot.new, cur.new))
+        fault_of result (kept_by optional_text cur.old) }
+{
+    *slot = Some(span_or_skip(cur)?);
+    Ok(())
+}
+
+// Reads a list of texts, or passes over a value of another kind.
+#[inline(never)]
+fn read_texts(
+    alloc: Global,
+    cur: &mut Cursor<'_>,
+    slot: &mut Option<Option<Vec<Span>>>,
+) -> Result<(), RecordRefusal>
+    ghost bytes: { List ℕ }
+    requires { IsIn bytes cur.old }
+    ensures within { IsIn bytes cur.new }
+    ensures exact { Gives
+        (λ _. (datum_in (λ ts. Texts (texts_seen bytes ts)) slot.new, cur.new)) fault_of result
+        (kept_by texts cur.old) }
+{
+    *slot = Some(spans_or_skip(alloc, cur)?);
+    Ok(())
+}
+
+// Reads a digest, or passes over a value of another kind.
+#[inline(never)]
+fn read_digest<const N: usize>(
+    cur: &mut Cursor<'_>,
+    slot: &mut Option<Option<[u8; N]>>,
+) -> Result<(), RecordRefusal>
+    ghost bytes: { List ℕ }
+    requires { IsIn bytes cur.old }
+    ensures within { IsIn bytes cur.new }
+    ensures exact { Gives (λ _. (datum_in Digest slot.new, cur.new)) fault_of result
+        (kept_by (digest N) cur.old) }
+{
+    *slot = Some(digest_or_skip(cur)?);
+    Ok(())
 }
 
 // The key that stands at the cursor, which was not read before if it is known.
