@@ -37,7 +37,7 @@ loop-preserved g c =
     let fields : Fields = fields_at g.bytes c.in_ok-read.field-0 in
     let row : Row = file_row c.args.conda name fields in
     let read : text_from c.loop.cur ≡ Ok (name, c.new_name.new.cur) = name_read (has_name c.loop.names) c.loop.cur c.new_name.new.cur name c.in_ok-name.ensures.exact in
-    let file : text_at g.bytes c.span_before.result ≡ name = ap (text_at g.bytes) c.span_before.ensures ∙ text_spans g.bytes name c.loop.cur c.new_name.new.cur c.loop.invariant.2 read in
+    let file : text_at g.bytes c.span_before.result ≡ name = ap (text_at g.bytes) c.span_before.ensures ∙ text_spans g.bytes name c.loop.cur c.new_name.new.cur c.loop.invariant.3 read in
     let pushed : rows_at g.bytes c.push.new.self.items ≡ before ++ row ∷ [] =
     ap (rows_at g.bytes) c.in_ok-push.ensures.items ∙ map-append (row_at g.bytes) c.loop.rows.items _
     ∙ ap (λ (file : List ℕ). before ++ file_row c.args.conda file fields ∷ []) file in (
@@ -46,6 +46,7 @@ loop-preserved g c =
           c.loop-test.true c.in_ok-name.ensures.exact c.in_ok-read.ensures.exact)
           ∙ c.loop.invariant.0,
       (λ q. c.in_ok-name.ensures.more q ∙ has_file_more before row (has_name c.loop.names q) q (c.loop.invariant.1 q) ∙ ap (λ (rows : List Row). has_file q rows) (sym pushed)),
+      c.in_ok-name.ensures.rising,
       c.in_ok-read.ensures.within,
     )
 
