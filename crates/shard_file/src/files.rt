@@ -5,7 +5,7 @@ ghost use Rattle.std.specs.Str.{bytes_eq};
 ghost use Rattle.gateway_words.specs.Reading.{Gives};
 ghost use Rattle.conda_record.specs.Reading.{fault_of};
 ghost use Rattle.mp_codec.specs.Span.{IsIn};
-ghost use Rattle.shard_file.specs.Spans.{rows_at};
+ghost use Rattle.shard_file.specs.Spans.{rows_at, AreNamed};
 ghost use Rattle.shard_file.specs.Names.{has_name, new_name_from, AreRising};
 ghost use Rattle.shard_file.specs.Reading.{files_after, files_from};
 
@@ -30,6 +30,7 @@ pub(crate) fn files(
     ensures within { IsIn bytes cur.new }
     ensures exact { Gives (λ rows. (rows_at bytes rows.items, cur.new)) fault_of result
         (files_from conda cur.old) }
+    ensures named { IfOk result (λ rows. AreNamed bytes rows.items) }
 {
     let files = cur.map_len()?;
     rows_of_files(alloc, cur, conda, files)
@@ -47,6 +48,7 @@ fn rows_of_files(
     ensures within { IsIn bytes cur.new }
     ensures exact { Gives (λ rows. (rows_at bytes rows.items, cur.new)) fault_of result
         (files_after conda files [] cur.old) }
+    ensures named { IfOk result (λ rows. AreNamed bytes rows.items) }
 {
     let most = (files as usize).min(MOST_AT_ONCE);
     let mut rows = Vec::with_capacity(alloc, most)?;
