@@ -7,3 +7,4 @@ pub mod WrittenLemmas
 pub mod UnderLemmas
 pub mod AscendingLemmas
 pub mod SortedMapLemmas
+pub mod SpanLemmas

@@ -4,18 +4,11 @@ use Rattle.std.specs.Cmp.{IsStrictWeakOrder}
 use Rattle.std.specs.List.Sorted.{IsSortedBy, IsStableBy, ties}
 use Rattle.std.proofs.lemmas.Cmp.{nat_list_cmp_total}
 use Rattle.std.proofs.lemmas.List.Sorted.{ranks_by, sorted_far}
-use Rattle.mp_codec.specs.Span.{text_at}
-use Rattle.shard_file.specs.declared.spans.FileSpans.{FileSpans}
 use Rattle.shard_file.specs.Rows.{Row, file_lt}
-use Rattle.shard_file.specs.Spans.{row_at}
 
 -- file names are in one order
 pub file_order : IsStrictWeakOrder file_lt
 file_order = ranks_by nat_list_cmp_total (λ (r : Row). r.file)
-
--- rows whose file names are spans of some bytes are in one order too
-pub span_order : (bytes : List ℕ) → IsStrictWeakOrder (λ a b. file_lt (row_at bytes a) (row_at bytes b))
-span_order bytes = ranks_by nat_list_cmp_total (λ (r : FileSpans). text_at bytes r.file)
 
 -- a stable sort has one result
 module _ {X : Type 0} (lt : X → X → Bool) (o : IsStrictWeakOrder lt) where

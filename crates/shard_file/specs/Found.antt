@@ -11,7 +11,7 @@ use Rattle.conda_record.specs.declared.refusal.RecordRefusal.{RecordRefusal}
 use Rattle.conda_record.specs.Reading.{fault_of}
 use Rattle.shard_file.specs.declared.spans.FileSpans.{FileSpans}
 use Rattle.shard_file.specs.Rows.{Row, file_lt}
-use Rattle.shard_file.specs.Spans.{rows_at}
+use Rattle.shard_file.specs.Spans.{rows_at, AreNamed}
 
 -- the place of a key among the known ones, or their number
 abbrev pub place : Key → ℕ
@@ -33,6 +33,11 @@ skipped_read false = None
 -- what was found, by the places of the keys, each text as it stands in these bytes
 abbrev pub known : List ℕ → Found → List (Option (List Row))
 known bytes found = rows_read bytes found.packages ∷ rows_read bytes found.conda ∷ skipped_read found.removed ∷ []
+
+-- the bytes at the span of each file name that was found are text
+pub record IsNamed (bytes : List ℕ) (found : Found) : Type 0 where
+  pub packages : IfSome found.packages (λ rows. AreNamed bytes rows.items)
+  pub conda : IfSome found.conda (λ rows. AreNamed bytes rows.items)
 
 -- ---- what was read of all the bytes
 

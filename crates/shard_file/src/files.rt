@@ -1,20 +1,19 @@
 //! Reading a map of files, each once.
 
-ghost use Rattle.std.specs.Prelude.{◌≡◌, ◌||◌, IfOk, [], List, ℕ};
+ghost use Rattle.std.specs.Prelude.{◌≡◌, ◌||◌, IfOk, OnOk, [], List, ℕ};
 ghost use Rattle.std.specs.Str.{bytes_eq};
 ghost use Rattle.gateway_words.specs.Reading.{Gives};
 ghost use Rattle.conda_record.specs.Reading.{fault_of};
 ghost use Rattle.mp_codec.specs.Span.{IsIn};
-ghost use Rattle.shard_file.specs.Spans.{rows_at};
-ghost use Rattle.shard_file.specs.Names.{has_name, new_name_from};
+ghost use Rattle.shard_file.specs.Spans.{rows_at, AreNamed};
+ghost use Rattle.shard_file.specs.Names.{has_name, new_name_from, AreRising};
 ghost use Rattle.shard_file.specs.Reading.{files_after, files_from};
 
-use crate::names;
+use crate::names::Names;
 use crate::spans::FileSpans;
 use conda_record::{RecordRefusal, RecordSpans};
 use mp_codec::{Cursor, FaultKind, FormatFault};
 use std::alloc::Global;
-use std::collections::BTreeSet;
 
 // For so many rows memory is taken before they are read, since their number is only claimed.
 const MOST_AT_ONCE: usize = 64;
@@ -31,6 +30,7 @@ pub(crate) fn files(
     ensures within { IsIn bytes cur.new }
     ensures exact { Gives (λ rows. (rows_at bytes rows.items, cur.new)) fault_of result
         (files_from conda cur.old) }
+    ensures named { IfOk result (λ rows. AreNamed bytes rows.items) }
 {
     let files = cur.map_len()?;
     rows_of_files(alloc, cur, conda, files)
@@ -48,9 +48,11 @@ fn rows_of_files(
     ensures within { IsIn bytes cur.new }
     ensures exact { Gives (λ rows. (rows_at bytes rows.items, cur.new)) fault_of result
         (files_after conda files [] cur.old) }
+    ensures named { IfOk result (λ rows. AreNamed bytes rows.items) }
 {
-    let mut rows = Vec::with_capacity(alloc, (files as usize).min(MOST_AT_ONCE))?;
-    let mut names = BTreeSet::new(alloc);
+    let most = (files as usize).min(MOST_AT_ONCE);
+    let mut rows = Vec::with_capacity(alloc, most)?;
+    let mut names = Names::new(alloc, most)?;
     for _ in 0..files {
         let name = new_name(cur, &mut names)?;
         let row = FileSpans {
@@ -65,19 +67,18 @@ fn rows_of_files(
 
 // The text that stands at the cursor, which is none of the names so far.
 #[tactic(auto, unfolding(crate::specs::Names::new_name_from))]
-fn new_name<'a>(
-    cur: &mut Cursor<'a>,
-    names: &mut BTreeSet<&'a str>,
-) -> Result<&'a str, RecordRefusal>
+fn new_name<'a>(cur: &mut Cursor<'a>, names: &mut Names<'a>) -> Result<&'a str, RecordRefusal>
+    requires { AreRising names.old }
     ensures within { (bytes : List ℕ) → IsIn bytes cur.old → IsIn bytes cur.new }
     ensures exact { Gives (λ name. (name.now, cur.new)) fault_of result
         (new_name_from (has_name names.old) cur.old) }
     ensures more { IfOk result (λ name. (q : List ℕ) → has_name names.new q
         ≡ (bytes_eq name.now q || has_name names.old q)) }
+    ensures rising { OnOk result (AreRising names.new) }
 {
     let at = cur.at();
     let name = cur.text()?;
-    if !names::add(names, name)? {
+    if !names.add(name)? {
         return Err(RecordRefusal::Fault(FormatFault {
             at: at as u64,
             kind: FaultKind::Repeated,

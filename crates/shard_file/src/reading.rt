@@ -8,8 +8,8 @@ ghost use Rattle.mp_codec.specs.Maps.{bytes_behind, place_of, unread, known_key_
 ghost use Rattle.conda_record.specs.Reading.{fault_of};
 ghost use Rattle.shard_file.specs.Rows.{shard_keys, file_lt};
 ghost use Rattle.mp_codec.specs.Span.{IsIn};
-ghost use Rattle.shard_file.specs.Spans.{rows_at};
-ghost use Rattle.shard_file.specs.Found.{place, known, SortsRows};
+ghost use Rattle.shard_file.specs.Spans.{rows_at, AreNamed};
+ghost use Rattle.shard_file.specs.Found.{place, known, IsNamed, SortsRows};
 ghost use Rattle.shard_file.specs.Reading.{member_from, shard_end_from, pairs_from, shard_from, rows_from};
 
 use crate::files::files;
@@ -59,7 +59,8 @@ impl Found {
     // Nothing was read.
     fn new() -> Found
         ghost bytes: { List ℕ }
-        ensures { known bytes result ≡ unread shard_keys }
+        ensures unread { known bytes result ≡ unread shard_keys }
+        ensures named { IsNamed bytes result }
     {
         Found {
             packages: None,
@@ -90,10 +91,12 @@ impl Found {
         key: Key,
     ) -> Result<(), RecordRefusal>
         ghost bytes: { List ℕ }
-        requires { IsIn bytes cur.old }
+        requires within { IsIn bytes cur.old }
+        requires named { IsNamed bytes self.old }
         ensures within { IsIn bytes cur.new }
         ensures exact { Gives (λ _. (known bytes self.new, cur.new)) fault_of result
             (known_value_from shard_keys member_from (known bytes self.old) (place key) cur.old) }
+        ensures named { OnOk result (IsNamed bytes self.new) }
     {
         match key {
             Key::Packages => self.packages = Some(files(alloc, cur, false)?),
@@ -111,8 +114,10 @@ impl Found {
     #[tactic(auto, unfolding(mp_codec::specs::Maps::known_end_from, crate::specs::Reading::shard_end_from))]
     fn finish(self, alloc: Global, cur: &Cursor<'_>) -> Result<Vec<FileSpans>, RecordRefusal>
         ghost bytes: { List ℕ }
-        ensures { Gives (λ rows. (rows_at bytes rows.items, cur.now)) fault_of result
+        requires { IsNamed bytes self }
+        ensures exact { Gives (λ rows. (rows_at bytes rows.items, cur.now)) fault_of result
             (shard_end_from (known bytes self) cur.now) }
+        ensures named { IfOk result (λ rows. AreNamed bytes rows.items) }
     {
         let mut rows = self.packages.unwrap_or(Vec::new(alloc));
         let mut conda = self.conda.unwrap_or(Vec::new(alloc));
@@ -149,8 +154,9 @@ fn pairs_of_shard(
 ) -> Result<Vec<FileSpans>, RecordRefusal>
     ghost bytes: { List ℕ }
     requires { IsIn bytes cur.old }
-    ensures { Gives (λ rows. (rows_at bytes rows.items, cur.new)) fault_of result
+    ensures exact { Gives (λ rows. (rows_at bytes rows.items, cur.new)) fault_of result
         (pairs_from pairs (unread shard_keys) cur.old) }
+    ensures named { IfOk result (λ rows. AreNamed bytes rows.items) }
 {
     let mut found = Found::new();
     for _ in 0..pairs {
@@ -165,8 +171,9 @@ fn pairs_of_shard(
 fn shard_here(alloc: Global, cur: &mut Cursor<'_>) -> Result<Vec<FileSpans>, RecordRefusal>
     ghost bytes: { List ℕ }
     requires { IsIn bytes cur.old }
-    ensures { Gives (λ rows. (rows_at bytes rows.items, cur.new)) fault_of result
+    ensures exact { Gives (λ rows. (rows_at bytes rows.items, cur.new)) fault_of result
         (shard_from cur.old) }
+    ensures named { IfOk result (λ rows. AreNamed bytes rows.items) }
 {
     let pairs = cur.map_len()?;
     pairs_of_shard(alloc, cur, pairs)
@@ -184,7 +191,9 @@ pub(crate) fn sorted_rows(alloc: Global, bytes: &[u8]) -> Result<Vec<FileSpans>,
 // The rows of the shard that some bytes are, in the order in which they stand.
 #[tactic(auto, unfolding(mp_codec::specs::Maps::all_from, crate::specs::Reading::rows_from))]
 fn rows(alloc: Global, bytes: &[u8]) -> Result<Vec<FileSpans>, RecordRefusal>
-    ensures { Gives (λ rows. rows_at bytes.now rows.items) fault_of result (rows_from bytes.now) }
+    ensures exact { Gives (λ rows. rows_at bytes.now rows.items) fault_of result
+        (rows_from bytes.now) }
+    ensures named { IfOk result (λ rows. AreNamed bytes.now rows.items) }
 {
     let mut cur = Cursor::new(bytes);
     let rows = shard_here(alloc, &mut cur)?;
@@ -199,9 +208,10 @@ fn rows(alloc: Global, bytes: &[u8]) -> Result<Vec<FileSpans>, RecordRefusal>
 
 // Puts rows in the order of their file names; rows of one name stay as they stood.
 fn sort(bytes: &[u8], rows: &mut Vec<FileSpans>) -> Result<(), AllocError>
+    requires { AreNamed bytes.now rows.old.items }
     ensures ascending { OnOk result (IsSortedBy file_lt (rows_at bytes.now rows.new.items)) }
     ensures in_order { IsStableBy file_lt (rows_at bytes.now rows.old.items)
         (rows_at bytes.now rows.new.items) }
 {
-    rows.sort_by(|a, b| a.file.text(bytes).cmp(b.file.text(bytes)))
+    rows.sort_by(|a, b| a.name(bytes).cmp(b.name(bytes)))
 }

@@ -1,7 +1,7 @@
 //! A row of a shard as places in its bytes.
 
 ghost use Rattle.std.specs.Prelude.{◌≡◌};
-ghost use Rattle.shard_file.specs.Spans.{row_at};
+ghost use Rattle.shard_file.specs.Spans.{raw_at, row_at};
 ghost use Rattle.shard_file.specs.Seen.{row_seen};
 
 use crate::shard::ShardRow;
@@ -18,6 +18,16 @@ pub(crate) struct FileSpans {
 }
 
 impl FileSpans {
+    // The bytes of the file name, as they stand in these bytes; they are not tested again.
+    pub(crate) fn name<'a>(&self, bytes: &'a [u8]) -> &'a [u8]
+        ensures { result.now ≡ raw_at bytes.now self.now.file }
+    {
+        match bytes.get(self.file.start..self.file.end) {
+            Some(name) => name,
+            None => &[],
+        }
+    }
+
     // The row in these bytes, to look at.
     pub(crate) fn shown<'a>(&'a self, bytes: &'a [u8]) -> ShardRow<'a>
         ensures { row_seen result ≡ row_at bytes.now self.now }

@@ -134,6 +134,40 @@ const OUT_OF_ORDER: [&[(&str, bool, &[u8])]; 4] = [
     &[("a", true, A), ("b", true, A), ("b", true, A)],
 ];
 
+// Names of files, a byte each, in the order in which they stand in one map, and in their order.
+const IN_ANY_ORDER: [(&str, &str); 8] = [
+    ("abcd", "abcd"),
+    ("dcba", "abcd"),
+    ("bacd", "abcd"),
+    ("acbd", "abcd"),
+    ("abdc", "abcd"),
+    ("dabc", "abcd"),
+    ("bdac", "abcd"),
+    ("cdab", "abcd"),
+];
+
+// Names of files of which one stands twice, and where it stands again in packages and in
+// packages.conda.
+const TWICE: [(&str, u64, u64); 13] = [
+    // Side by side.
+    ("aa", 39, 45),
+    ("abb", 67, 73),
+    ("baa", 67, 73),
+    ("acbb", 95, 101),
+    // At a distance, where names rise up to the second.
+    ("aba", 67, 73),
+    ("abca", 95, 101),
+    ("abcb", 95, 101),
+    // The first among names that rise, the second behind one that doesn't.
+    ("acba", 95, 101),
+    ("acbc", 95, 101),
+    ("bcab", 95, 101),
+    // Both behind a name that doesn't rise.
+    ("cabab", 95, 101),
+    ("badcd", 123, 129),
+    ("adbcb", 123, 129),
+];
+
 // What is wrong, and where.
 fn in_parts(outcome: Result<Shard, ShardRefusal>) -> Option<(FaultKind, u64)> {
     match outcome {
@@ -151,6 +185,32 @@ fn read(alloc: Global, parts: &[&[u8]]) -> Result<Shard, Fail> {
         Ok(shard) => Ok(shard),
         Err(refusal) => Err(refusal.into()),
     }
+}
+
+// A shard whose files of these names, a byte each, stand behind one key.
+fn one_map(alloc: Global, key: &[u8], names: &str) -> Result<Vec<u8>, Fail> {
+    let mut bytes = b"\x81".to_vec(alloc)?;
+    bytes.extend_from_slice(key)?;
+    let count = u8::try_from(names.len())
+        .ok()
+        .ok_or("the names are too many")?;
+    bytes.push(0x80 | count)?;
+    for name in names.bytes() {
+        bytes.push(0xa1)?;
+        bytes.push(name)?;
+        bytes.extend_from_slice(A)?;
+    }
+    Ok(bytes)
+}
+
+// Whether the rows have these names, a byte each.
+fn has_names(shard: &Shard, names: &str) -> bool {
+    shard.len() == names.len()
+        && names.bytes().enumerate().all(|(i, name)| {
+            shard
+                .row(i)
+                .is_some_and(|row| row.file.as_bytes() == [name].as_slice())
+        })
 }
 
 // Whether the rows are these: the file, whether it stands in packages.conda, the record's name.
@@ -268,6 +328,31 @@ fn rows_are_in_the_order_of_their_files(rt: HostRuntime) -> Result<(), Fail> {
             ]
         )
     );
+    Ok(())
+}
+
+#[test]
+fn files_of_a_map_stand_in_any_order(rt: HostRuntime) -> Result<(), Fail> {
+    for (names, sorted) in IN_ANY_ORDER {
+        for key in [b"\xa8packages".as_slice(), b"\xaepackages.conda"] {
+            let shard = read(rt.alloc(), &[one_map(rt.alloc(), key, names)?.as_slice()])?;
+            assert!(rt; has_names(&shard, sorted), "{names}");
+        }
+    }
+    Ok(())
+}
+
+#[test]
+fn a_file_name_that_stands_again_is_refused(rt: HostRuntime) -> Result<(), Fail> {
+    for (names, in_packages, in_conda) in TWICE {
+        for (key, at) in [
+            (b"\xa8packages".as_slice(), in_packages),
+            (b"\xaepackages.conda", in_conda),
+        ] {
+            let outcome = Shard::read(rt.alloc(), one_map(rt.alloc(), key, names)?);
+            assert_eq!(rt; in_parts(outcome), Some((Repeated, at)), "{names}");
+        }
+    }
     Ok(())
 }
 

@@ -10,13 +10,13 @@ use Rattle.shard_file.specs.Found.{known, place}
 use Rattle.shard_file.specs.Reading.{member_from, shard_end_from, pairs_from}
 use Rattle.shard_file.proofs.reading.pairs_of_shard.Goals as goal
 
-pub returns-in_err-key : goal.returns-in_err-key
-returns-in_err-key g c =
+pub returns-in_err-key-clause-exact : goal.returns-in_err-key-clause-exact
+returns-in_err-key-clause-exact g c =
     let p = err_from_is_err_and c.from_residual.result c.from_residual.ensures.1 in
     rw (p.1, p.2) (sym c.loop.invariant.0 ∙ key_stops (known_key_from shard_keys) (known_value_from shard_keys member_from) shard_end_from c.args.pairs c.loop.counter (known g.bytes c.loop.found) _ c.loop.cur c.loop-test.true c.in_err-key.ensures.exact)
 
-pub returns-in_err-read_value : goal.returns-in_err-read_value
-returns-in_err-read_value g c =
+pub returns-in_err-read_value-clause-exact : goal.returns-in_err-read_value-clause-exact
+returns-in_err-read_value-clause-exact g c =
     let p = err_from_is_err_and c.from_residual-in_err-read_value.result c.from_residual-in_err-read_value.ensures.1 in
     rw (p.1, p.2) (fault_along c.in_err-read_value.field-0.0 _ (λ (f : FormatFault). pairs_from c.args.pairs (unread shard_keys) c.args.cur.now ≡ Err f)
     (λ f e. sym c.loop.invariant.0 ∙ value_stops (known_key_from shard_keys) (known_value_from shard_keys member_from) shard_end_from c.args.pairs c.loop.counter (known g.bytes c.loop.found) (place c.in_ok-key.key) f c.loop.cur c.next_key.new.cur c.loop-test.true c.in_ok-key.ensures.exact e)
@@ -28,14 +28,15 @@ loop-preserved g c = (
       c.loop.cur c.next_key.new.cur c.read_value.new.cur c.loop-test.true c.in_ok-key.ensures.exact c.in_ok-read_value.ensures.exact)
       ∙ c.loop.invariant.0,
   c.in_ok-read_value.ensures.within,
+  c.in_ok-read_value.ensures.named,
 )
 
-pub returns-in_err-finish : goal.returns-in_err-finish
-returns-in_err-finish g c =
+pub returns-in_err-finish-clause-exact : goal.returns-in_err-finish-clause-exact
+returns-in_err-finish-clause-exact g c =
     let p = err_from_is_err_and c.from_residual-in_err-finish.result c.from_residual-in_err-finish.ensures.1 in
     rw (p.1, p.2) (fault_along c.in_err-finish.field-0.0 _ (λ (f : FormatFault). pairs_from c.args.pairs (unread shard_keys) c.args.cur.now ≡ Err f)
     (λ f e. sym c.loop.invariant.0 ∙ is_done (known_key_from shard_keys) (known_value_from shard_keys member_from) shard_end_from c.args.pairs c.loop.counter (known g.bytes c.loop.found) c.loop.cur c.loop-test.false ∙ e)
-    c.in_err-finish.ensures)
+    c.in_err-finish.ensures.exact)
 
-pub returns : goal.returns
-returns g c = sym c.loop.invariant.0 ∙ is_done (known_key_from shard_keys) (known_value_from shard_keys member_from) shard_end_from c.args.pairs c.loop.counter (known g.bytes c.loop.found) c.loop.cur c.loop-test.false ∙ c.in_ok-finish.ensures
+pub returns-clause-exact : goal.returns-clause-exact
+returns-clause-exact g c = sym c.loop.invariant.0 ∙ is_done (known_key_from shard_keys) (known_value_from shard_keys member_from) shard_end_from c.args.pairs c.loop.counter (known g.bytes c.loop.found) c.loop.cur c.loop-test.false ∙ c.in_ok-finish.ensures.exact

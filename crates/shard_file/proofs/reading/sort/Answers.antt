@@ -1,18 +1,29 @@
-use Rattle.std.proofs.Common.{rules}
+use Rattle.std.proofs.Common.{◌≡◌, rules, subst, ℕ, List, map}
+use Rattle.std.specs.List.Sorted.{IsSortedBy, IsStableBy}
 use Rattle.std.proofs.lemmas.Fn.{always_returns_same}
 use Rattle.std.proofs.lemmas.Result.{on_ok_weaker}
-use Rattle.shard_file.specs.Rows.{file_lt}
-use Rattle.shard_file.specs.Spans.{row_at}
-use Rattle.shard_file.proofs.SortLemmas.{file_order, span_order}
+use Rattle.shard_file.specs.Rows.{Row, file_lt}
+use Rattle.shard_file.specs.Spans.{rows_at}
+use Rattle.shard_file.proofs.SortLemmas.{file_order}
 use Rattle.shard_file.proofs.SortedMapLemmas.{over, sorted_mapped, stable_mapped}
+use Rattle.shard_file.proofs.SpanLemmas.{named_still, raw_row_at, raw_rows, raw_order}
 use Rattle.shard_file.proofs.reading.sort.Goals as goal
 
 pub returns-clause-ascending : goal.returns-clause-ascending
 returns-clause-ascending c =
-    on_ok_weaker c.sort_by.result (λ h. sorted_mapped (row_at c.args.bytes.now) file_lt c.sort_by.new.self.items (h (over (row_at c.args.bytes.now) file_lt) (span_order c.args.bytes.now)
-    (always_returns_same _ _ _ (λ a r f k. (search rules, search rules))))) c.sort_by.ensures.sorted
+    let bytes : List ℕ = c.args.bytes.now in
+    let after : map (raw_row_at bytes) c.sort_by.new.self.items ≡ rows_at bytes c.sort_by.new.self.items =
+    raw_rows bytes c.sort_by.new.self.items (named_still bytes c.args.rows.now.items c.sort_by.new.self.items c.sort_by.ensures.permutation c.requires) in
+    on_ok_weaker c.sort_by.result (λ h. subst (IsSortedBy file_lt) after (sorted_mapped (raw_row_at bytes) file_lt c.sort_by.new.self.items (h (over (raw_row_at bytes) file_lt) (raw_order bytes)
+    (always_returns_same _ _ _ (λ a r f k. (search rules, search rules)))))) c.sort_by.ensures.sorted
 
 pub returns-clause-in_order : goal.returns-clause-in_order
 returns-clause-in_order c =
-    stable_mapped (row_at c.args.bytes.now) file_lt file_order c.args.rows.now.items c.sort_by.new.self.items (c.sort_by.ensures.stable (over (row_at c.args.bytes.now) file_lt) (span_order c.args.bytes.now)
-    (always_returns_same _ _ _ (λ a r f k. (search rules, search rules))))
+    let bytes : List ℕ = c.args.bytes.now in
+    let before : map (raw_row_at bytes) c.args.rows.now.items ≡ rows_at bytes c.args.rows.now.items = raw_rows bytes c.args.rows.now.items c.requires in
+    let after : map (raw_row_at bytes) c.sort_by.new.self.items ≡ rows_at bytes c.sort_by.new.self.items =
+    raw_rows bytes c.sort_by.new.self.items (named_still bytes c.args.rows.now.items c.sort_by.new.self.items c.sort_by.ensures.permutation c.requires) in
+    subst (λ (rows : List Row). IsStableBy file_lt rows (rows_at bytes c.sort_by.new.self.items)) before
+    (subst (λ (rows : List Row). IsStableBy file_lt (map (raw_row_at bytes) c.args.rows.now.items) rows) after
+    (stable_mapped (raw_row_at bytes) file_lt file_order c.args.rows.now.items c.sort_by.new.self.items (c.sort_by.ensures.stable (over (raw_row_at bytes) file_lt) (raw_order bytes)
+    (always_returns_same _ _ _ (λ a r f k. (search rules, search rules))))))
