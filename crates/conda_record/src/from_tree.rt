@@ -116,3 +116,6 @@ fn texts(alloc: Global, tree: Tree<'_, '_>, key: &str) -> Result<Vec<Text>, Allo
         None => Ok(Vec::new(alloc)),
     }
 }
+
+#[cfg(test)]
+mod tests;
