@@ -6,3 +6,5 @@ pub mod RefusalLemmas
 pub mod WrittenLemmas
 pub mod CountLemmas
 pub mod CopyLemmas
+pub mod DataLemmas
+pub mod TreeLemmas

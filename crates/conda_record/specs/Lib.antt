@@ -5,6 +5,8 @@ pub mod Spans
 pub mod View
 pub mod Reading
 pub mod Json
+pub mod Tree
+pub mod InTree
 pub mod Writing
 pub use Rattle.mp_codec.specs.Value
 pub use Rattle.mp_codec.specs.Spelling

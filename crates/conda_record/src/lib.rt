@@ -7,7 +7,9 @@
 #![tactic(auto)]
 
 mod copying;
-mod json;
+mod data;
+mod from_json;
+mod from_tree;
 mod laws;
 mod reading;
 mod record;
@@ -15,11 +17,13 @@ mod refusal;
 mod spans;
 #[cfg(test)]
 mod tests;
+mod tree;
 mod value;
 mod view;
 mod writing;
 
-pub use json::JsonRefusal;
+pub use data::is_data;
+pub use from_json::JsonRefusal;
 pub use laws::a_written_record_is_read;
 pub use record::PackageRecord;
 pub use refusal::RecordRefusal;

@@ -1,7 +1,7 @@
 use Rattle.std.proofs.Common.{◌≡◌, ◌++◌, drop, option_map}
 use Rattle.serde_json.specs.View.{items_view}
 use Rattle.conda_record.specs.Json.{texts_in}
-use Rattle.conda_record.proofs.json.copies.Given as goal
+use Rattle.conda_record.proofs.from_json.copies.Given as goal
 
 -- the texts of all elements are those so far and those of the elements that are left
 abbrev pub invariant-loop-item : goal.invariant-loop-item

@@ -4,7 +4,7 @@ ghost use Rattle.std.specs.Prelude.{◌≡◌, [], Some, None, unwrap_or, option
 ghost use Rattle.serde_json.specs.View.{view, items_view};
 ghost use Rattle.serde_json.specs.Find.{as_str, as_array};
 ghost use Rattle.conda_record.specs.Json.{said_at, number_of, texts_of, texts_in, digest_of, fields_of_json};
-ghost use Rattle.conda_record.specs.declared.json.JsonRefusal.TheVariants.{Memory};
+ghost use Rattle.conda_record.specs.declared.from_json.JsonRefusal.TheVariants.{Memory};
 
 use crate::record::PackageRecord;
 use hex::FromHex;
