@@ -22,16 +22,15 @@ use shard_file::FileRecord;
 use std::alloc::{AllocError, AllocFailed, Global};
 use std::cmp::Ordering;
 
-// How deep arrays and objects may nest in the file, in a value behind one of its keys, and in the
-// record of a file of a part.
-const FILE_DEPTH: usize = 127;
-
+// How deep arrays and objects may nest in a value behind a key of the file, where the whole file is
+// at most 127 deep.
 const PART_DEPTH: usize = 126;
 
+// The same in the record of a file of a part.
 const RECORD_DEPTH: usize = 125;
 
 /// Why a file was not read as a plain one.
-#[derive(Clone, Copy, Debug, Drop)]
+#[derive(Drop)]
 pub(crate) enum PlainRefusal {
     /// It is not plain.
     Irregular,
