@@ -6,5 +6,7 @@ pub mod IndexLemmas
 pub mod LawLemmas
 pub mod UniqueLemmas
 pub mod MemberLemmas
+pub mod MemberTokenLemmas
 pub mod AscendLemmas
 pub mod StandingLemmas
+pub mod PlainLemmas

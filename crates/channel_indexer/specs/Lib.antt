@@ -1,5 +1,6 @@
 pub mod Puts
 pub mod Input
+pub mod Plain
 pub mod Seen
 pub mod Groups
 pub mod Grouped

@@ -9,6 +9,7 @@ ghost use Rattle.conda_name.specs.Name.{name_of};
 ghost use Rattle.channel_indexer.specs.Seen.{members_lent, behind};
 
 use crate::fault::IndexFault;
+use crate::plain::{PlainRefusal, plain_rows};
 use conda_name::{Name, NameRefusal};
 use conda_record::{JsonRefusal, PackageRecord};
 use mp_codec::Text;
@@ -17,26 +18,41 @@ use serde_json::{Map, Value};
 use shard_file::FileRecord;
 use std::alloc::Global;
 
-/// What `repodata.json` says, and the value of JSON that says it.
+/// What `repodata.json` says, and the value of JSON that says it, if one was made.
 #[derive(Drop)]
 pub(crate) struct Input {
     pub(crate) records: Vec<FileRecord>,
-    pub(crate) value: Value,
+    pub(crate) value: Option<Value>,
 }
 
 /// The records that the bytes of `repodata.json` say, those of `packages` first, each part in the
-/// order of its file names. The bytes are given back before the records are made. The value goes
-/// with them: its pieces are many and small, and an allocator that gets them back joins them all
-/// for the next large piece that it is asked for.
-#[tactic(auto, unfolding(crate::specs::Input::rows_from))]
+/// order of its file names. A plain file needs no value; any other one is read as a value, which
+/// decides what is wrong.
 pub(crate) fn read(alloc: Global, bytes: Vec<u8>) -> Result<Input, IndexFault>
+    ensures { Gives (λ input. input.records.items) fault_of result (rows_from bytes.items) }
+{
+    match plain_rows(alloc, &bytes) {
+        Ok(records) => Ok(Input {
+            records,
+            value: None,
+        }),
+        Err(PlainRefusal::Memory) => Err(IndexFault::Memory),
+        Err(PlainRefusal::Irregular) => read_value(alloc, bytes),
+    }
+}
+
+// The records by the value that the bytes are. The bytes are given back before the records are made.
+// The value goes with them: its pieces are many and small, and an allocator that gets them back joins
+// them all for the next large piece that it is asked for.
+#[tactic(auto, unfolding(crate::specs::Input::rows_from))]
+fn read_value(alloc: Global, bytes: Vec<u8>) -> Result<Input, IndexFault>
     ensures { Gives (λ input. input.records.items) fault_of result (rows_from bytes.items) }
 {
     let value = parsed(alloc, &bytes)?;
     drop(bytes);
     Ok(Input {
         records: records_in(alloc, &value)?,
-        value,
+        value: Some(value),
     })
 }
 
@@ -137,7 +153,7 @@ fn record(alloc: Global, file: &str, conda: bool, value: &Value) -> Result<FileR
 }
 
 // The record of one file, whose name has to be that of a package.
-fn named(
+pub(crate) fn named(
     alloc: Global,
     file: &str,
     conda: bool,

@@ -12,6 +12,7 @@ mod groups;
 mod index;
 mod input;
 mod laws;
+mod plain;
 mod plan;
 mod putting;
 mod shards;

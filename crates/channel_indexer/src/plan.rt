@@ -17,8 +17,8 @@ pub(crate) struct Plan {
     pub(crate) prepared: Prepared,
     pub(crate) names: u64,
     pub(crate) files: u64,
-    // The value that was read. It is given back last.
-    value: Value,
+    // The value that was read, if one was made. It is given back last.
+    value: Option<Value>,
 }
 
 /// The plan of indexing what these bytes of `repodata.json` say.

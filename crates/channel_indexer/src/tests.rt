@@ -60,7 +60,7 @@ fn told(alloc: Global, answer: &Result<Summary, IndexFault>) -> Result<String, F
 }
 
 // An input, and what is answered.
-const ANSWERS: [(&str, &str); 14] = [
+const ANSWERS: [(&str, &str); 20] = [
     ("{}", "names 0 files 0 written 0 kept 0"),
     (THREE_FILES, "names 2 files 3 written 2 kept 0"),
     ("[]", "json"),
@@ -93,6 +93,27 @@ const ANSWERS: [(&str, &str); 14] = [
         r#"{"packages":{"y":{"name":"Y","version":"1","build":"0"}},"packages.conda":{"y":{"name":"y","version":"2","build":"0"}}}"#,
         "names 1 files 2 written 1 kept 0",
     ),
+    // Files whose keys don't ascend, and those with a key twice.
+    (
+        r#"{"packages":{"b":{"name":"b","version":"1","build":"0"},"a":{"name":"a","version":"1","build":"0"}}}"#,
+        "names 2 files 2 written 2 kept 0",
+    ),
+    (
+        r#"{"packages":{"a":{"name":"a","version":"1","build":"0"},"a":{"name":"b","version":"1","build":"0"}}}"#,
+        "names 1 files 1 written 1 kept 0",
+    ),
+    (
+        r#"{"packages":{"a":{"name":"a","version":"1","build":"0"}},"packages":{}}"#,
+        "names 0 files 0 written 0 kept 0",
+    ),
+    // Numbers out of range, behind the parts and in front of them.
+    (r#"{"info":1e999,"packages":{}}"#, "json"),
+    (
+        r#"{"packages":{"a":{"name":"a","version":"1","build":"0"}},"repodata_version":1e999}"#,
+        "json",
+    ),
+    // More behind the object.
+    (r#"{"packages":{}}{}"#, "json"),
 ];
 
 #[test]
@@ -204,6 +225,46 @@ fn a_stop_leaves_the_old_index_or_all_of_the_new(rt: HostRuntime) -> Result<(), 
                     "{name} after call {stop}"
                 );
             }
+        }
+    }
+    Ok(())
+}
+
+// A plain file, and the same one with its keys in other orders.
+const PLAIN: &str = r#"{"info":{"subdir":"noarch"},
+"packages":{"a-1-0.tar.bz2":{"name":"a","version":"1","build":"0"},"b-1-0.tar.bz2":{"name":"b","version":"1","build":"0"}},
+"packages.conda":{"a-2-0.conda":{"name":"a","version":"2","build":"0"}},"removed":[]}"#;
+
+const OTHER_ORDERS: [&str; 2] = [
+    r#"{"removed":[],"packages.conda":{"a-2-0.conda":{"name":"a","version":"2","build":"0"}},
+"packages":{"a-1-0.tar.bz2":{"name":"a","version":"1","build":"0"},"b-1-0.tar.bz2":{"name":"b","version":"1","build":"0"}},
+"info":{"subdir":"noarch"}}"#,
+    r#"{"info":{"subdir":"noarch"},
+"packages":{"b-1-0.tar.bz2":{"name":"b","version":"1","build":"0"},"a-1-0.tar.bz2":{"build":"0","version":"1","name":"a"}},
+"packages.conda":{"a-2-0.conda":{"name":"a","version":"2","build":"0"}},"removed":[]}"#,
+];
+
+#[test]
+fn the_order_of_keys_makes_no_difference(rt: HostRuntime) -> Result<(), Fail> {
+    let alloc = rt.alloc();
+    let mut plain = store_with(alloc, PLAIN, None, None)?;
+    let answer = index_subdir(alloc, &mut plain, PLACE);
+    assert_eq!(rt;
+        told(alloc, &answer)?.as_str(),
+        "names 2 files 3 written 2 kept 0"
+    );
+    let index = plain.file(INDEX).ok_or("no index")?;
+    let shard_a = shard_of(alloc, index, "a")?;
+    let shard_b = shard_of(alloc, index, "b")?;
+    for input in OTHER_ORDERS {
+        let mut other = store_with(alloc, input, None, None)?;
+        let answer = index_subdir(alloc, &mut other, PLACE);
+        assert_eq!(rt;
+            told(alloc, &answer)?.as_str(),
+            "names 2 files 3 written 2 kept 0"
+        );
+        for name in [INDEX, shard_a.as_str(), shard_b.as_str()] {
+            assert!(rt; other.file(name) == plain.file(name), "{name}");
         }
     }
     Ok(())
