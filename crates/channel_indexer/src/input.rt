@@ -41,9 +41,9 @@ pub(crate) fn read(alloc: Global, bytes: Vec<u8>) -> Result<Input, IndexFault>
     }
 }
 
-// The records by the value that the bytes are. The bytes are given back before the records are made.
-// The value goes with them: its pieces are many and small, and an allocator that gets them back joins
-// them all for the next large piece that it is asked for.
+// The records by the value that the bytes are. The bytes are given back before the records are
+// made. The value goes with them: its pieces are many and small, and an allocator that gets them
+// back joins them all for the next large piece that it is asked for.
 #[tactic(auto, unfolding(crate::specs::Input::rows_from))]
 fn read_value(alloc: Global, bytes: Vec<u8>) -> Result<Input, IndexFault>
     ensures { Gives (λ input. input.records.items) fault_of result (rows_from bytes.items) }

@@ -98,7 +98,8 @@ fn begin_object(reader: &mut Reader<'_>) -> Result<(), PlainRefusal>
 
 // The rows behind the keys of the file, up to the brace that closes it.
 fn rows_of_keys(alloc: Global, reader: &mut Reader<'_>) -> Result<Vec<FileRecord>, PlainRefusal>
-    ensures { IfOk result (λ rows. (top : Members) × (members_in 126 reader.old ≡ Some (top, reader.new))
+    ensures { IfOk result (λ rows. (top : Members)
+        × (members_in 126 reader.old ≡ Some (top, reader.new))
         × (rows_in (object top) ≡ Ok rows.items)) }
 {
     let mut rows = Vec::new(alloc);
