@@ -4,7 +4,9 @@
 //!
 //! Standard input has pieces, one behind the other: 4 bytes of a length, big-endian, and so many
 //! bytes. `read_shards TURNS < FILE` reads each piece as a shard TURNS times (once where no word is
-//! given), and prints how many shards and rows one turn read. `read_shards rows < FILE` prints each
+//! given), and prints how many shards and rows one turn read. `read_shards copy TURNS < FILE` takes and
+//! gives back the copies of the pieces that such turns read, and prints how many a turn took. The time
+//! of one beside the other is that of reading. `read_shards rows < FILE` prints each
 //! row of each shard, a line a field, texts in hexadecimal digits. `read_shards write < FILE` takes
 //! each piece as values, three a file (its name, whether it stands in packages.conda, its record),
 //! writes the shard of these files, and prints its bytes in hexadecimal digits, a line a shard.
@@ -59,6 +61,33 @@ fn print_tally(rt: &(impl Print + AllocGlobal), bytes: &[u8], turns: u32) -> any
     }
     println!(rt; "shards {} rows {} turns {turns}", tally.shards, tally.rows)?;
     Ok(())
+}
+
+fn copy_all(alloc: Global, bytes: &[u8]) -> anyhow::Result<Tally> {
+    let mut tally = Tally { shards: 0, rows: 0 };
+    let mut left = bytes;
+    for _ in 0..bytes.len() {
+        let Some((piece, rest)) = first_piece(left) else {
+            break;
+        };
+        let copy = piece.to_vec(alloc)?;
+        tally.shards = tally.shards.saturating_add(u64::from(!copy.is_empty()));
+        left = rest;
+    }
+    Ok(tally)
+}
+
+fn print_copied(rt: &(impl Print + AllocGlobal), bytes: &[u8], turns: u32) -> anyhow::Result<()> {
+    let mut tally = Tally { shards: 0, rows: 0 };
+    for _ in 0..turns {
+        tally = copy_all(rt.alloc(), bytes)?;
+    }
+    println!(rt; "shards {} turns {turns}", tally.shards)?;
+    Ok(())
+}
+
+fn turns_in(word: &str) -> anyhow::Result<u32> {
+    word.parse::<u32>().context("TURNS must be a number")
 }
 
 fn print_text(rt: &(impl Print + AllocGlobal), key: &str, text: &[u8]) -> anyhow::Result<()> {
@@ -161,16 +190,15 @@ fn print_written(rt: &(impl Print + AllocGlobal), bytes: &[u8]) -> anyhow::Resul
 fn main(rt: HostRuntime) -> anyhow::Result<()> {
     let mut bytes = Vec::new(rt.alloc());
     rt.reader().read_to_end(&mut bytes)?;
-    match env::args(&rt)?.nth(1) {
+    let mut words = env::args(&rt)?.skip(1);
+    match words.next() {
         Some(word) if word.as_str() == "rows" => print_rows(&rt, bytes.as_slice()),
         Some(word) if word.as_str() == "write" => print_written(&rt, bytes.as_slice()),
-        Some(word) => {
-            let turns = word
-                .as_str()
-                .parse::<u32>()
-                .context("TURNS must be a number")?;
-            print_tally(&rt, bytes.as_slice(), turns)
+        Some(word) if word.as_str() == "copy" => {
+            let word = words.next().context("TURNS must follow copy")?;
+            print_copied(&rt, bytes.as_slice(), turns_in(word.as_str())?)
         }
+        Some(word) => print_tally(&rt, bytes.as_slice(), turns_in(word.as_str())?),
         None => print_tally(&rt, bytes.as_slice(), 1),
     }
 }
