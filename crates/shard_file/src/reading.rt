@@ -121,6 +121,9 @@ impl Found {
     {
         let mut rows = self.packages.unwrap_or(Vec::new(alloc));
         let mut conda = self.conda.unwrap_or(Vec::new(alloc));
+        if rows.is_empty() {
+            return Ok(conda);
+        }
         rows.append(&mut conda)?;
         Ok(rows)
     }
