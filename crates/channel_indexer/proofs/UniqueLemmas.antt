@@ -15,7 +15,8 @@ use Rattle.std.proofs.lemmas.Map.Text.{is_eq-slice_cmp}
 use Rattle.std.proofs.lemmas.Slice.Eq.{bytes_eq-Decides}
 use Rattle.channel_store.specs.Store.{Files}
 use Rattle.shard_file.specs.Rows.{Row, file_lt}
-use Rattle.shard_file.proofs.SortLemmas.{file_order, one_sort}
+use Rattle.mp_codec.proofs.SortingLemmas.{one_sort}
+use Rattle.shard_file.proofs.SortLemmas.{file_order}
 use Rattle.channel_indexer.specs.declared.fault.IndexFault.{IndexFault}
 use Rattle.channel_indexer.specs.declared.fault.IndexFault.TheVariants as fault
 use Rattle.channel_indexer.specs.declared.fault.Large.TheVariants as large

@@ -2,3 +2,4 @@ pub mod Ascii
 pub mod Places
 pub mod Reading
 pub mod Causes
+pub mod Sorting

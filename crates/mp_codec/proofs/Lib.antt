@@ -22,3 +22,5 @@ pub mod ShortestLemmas
 pub mod SpanLemmas
 pub mod StrLemmas
 pub mod AsciiLemmas
+pub mod SortingLemmas
+pub mod FirstLemmas

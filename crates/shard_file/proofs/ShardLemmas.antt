@@ -18,9 +18,13 @@ use Rattle.mp_codec.proofs.RuleLemmas.{RulesWithin, map_within}
 use Rattle.mp_codec.proofs.BytesLemmas.{ReadsBytes, JudgesBytes, bytes_judged}
 use Rattle.mp_codec.proofs.UniqueLemmas.{one_value}
 use Rattle.shard_file.specs.Rows.{Row, packages_key, conda_key, shard_keys, row_of, rows_in, rows_of, file_lt, FilesFault, shard_rules, ShardFault, ShardOf}
-use Rattle.shard_file.specs.Reading.{files_from, member_from, rows_at, shard_end_from, shard_from, rows_from}
+use Rattle.shard_file.specs.Reading.{files_from, member_from, rows_at, shard_end_from, shard_from, rows_from, shard_of}
 use Rattle.shard_file.proofs.FileLemmas.{AreRows, files_judged, files_behind}
-use Rattle.shard_file.proofs.SortLemmas.{file_order, one_sort}
+use Rattle.gateway_words.specs.Sorting.{sorted_by}
+use Rattle.gateway_words.specs.Reading.{◌>>=◌}
+use Rattle.mp_codec.proofs.SortingLemmas.{one_sort, sorted_is_sorted, sorted_is_stable}
+use Rattle.mp_codec.proofs.FirstLemmas.{one_first}
+use Rattle.shard_file.proofs.SortLemmas.{file_order}
 
 -- ---- the values of the known keys
 
@@ -138,14 +142,54 @@ shard_found bytes stood rows e up stable =
 pub shard_first : (bytes : List ℕ) (f : FormatFault) → rows_from bytes ≡ Err f → IsFirstFault (ShardFault bytes) f
 shard_first bytes f e = subst (λ (r : Result (List Row) FormatFault). JudgesBytes (MapFault shard_rules) AreAllRows bytes r) e (bytes_read bytes)
 
--- a shard with these rows is read with these rows
-pub shard_only : (bytes : List ℕ) (stood rows others : List Row) → rows_from bytes ≡ Ok stood → IsSortedBy file_lt rows → IsStableBy file_lt stood rows → ShardOf bytes others → rows ≡ others
-shard_only bytes stood rows others e up stable s =
-    let found : ShardOf bytes rows = shard_found bytes stood rows e up stable in
-    let same : found.value ≡ s.value = one_value found.value s.value bytes found.spelled s.spelled in
-    let in_order : IsStableBy file_lt (rows_of s.value) rows = subst (λ (v : Value). IsStableBy file_lt (rows_of v) rows) same found.in_order in
-    one_sort file_lt file_order rows others up s.ascending (λ x. s.in_order x ∙ sym (in_order x))
+-- bytes are a shard in one way
+pub one_shard : (bytes : List ℕ) (rows others : List Row) → ShardOf bytes rows → ShardOf bytes others → rows ≡ others
+one_shard bytes rows others s t =
+    let same : s.value ≡ t.value = one_value s.value t.value bytes s.spelled t.spelled in
+    let in_order : IsStableBy file_lt (rows_of t.value) rows = subst (λ (v : Value). IsStableBy file_lt (rows_of v) rows) same s.in_order in
+    one_sort file_lt file_order rows others s.ascending t.ascending (λ x. t.in_order x ∙ sym (in_order x))
 
--- a shard has no fault
-pub shard_no_fault : (bytes : List ℕ) (rows : List Row) (f : FormatFault) → ShardOf bytes rows → rows_from bytes ≡ Err f → ⊥
-shard_no_fault bytes rows f s e = s.no_fault f (shard_first bytes f e).stands
+-- what is read of a shard are its rows
+pub shard_says : (bytes : List ℕ) (rows : List Row) → shard_of bytes ≡ Ok rows → ShardOf bytes rows
+unfolding shard_of
+shard_says bytes rows e = go (rows_from bytes) refl e
+  where
+    go : (r : Result (List Row) FormatFault) → rows_from bytes ≡ r → (r >>= λ stood. Ok (sorted_by file_lt stood)) ≡ Ok rows → ShardOf bytes rows
+    go (Ok stood) read is =
+        let same : sorted_by file_lt stood ≡ rows = cc in
+        subst (λ (xs : List Row). ShardOf bytes xs) same
+        (shard_found bytes stood (sorted_by file_lt stood) read (sorted_is_sorted file_lt file_order stood) (sorted_is_stable file_lt file_order stood))
+    go (Err f) read is = absurd cc
+
+-- what is read of bytes that are no shard is their first fault
+pub shard_faults : (bytes : List ℕ) (f : FormatFault) → shard_of bytes ≡ Err f → IsFirstFault (ShardFault bytes) f
+unfolding shard_of
+shard_faults bytes f e = go (rows_from bytes) refl e
+  where
+    go : (r : Result (List Row) FormatFault) → rows_from bytes ≡ r → (r >>= λ stood. Ok (sorted_by file_lt stood)) ≡ Err f → IsFirstFault (ShardFault bytes) f
+    go (Ok stood) read is = absurd cc
+    go (Err g) read is = let same : g ≡ f = cc in subst (IsFirstFault (ShardFault bytes)) same (shard_first bytes g read)
+
+-- the rows of a shard are read of it
+pub says_shard : (bytes : List ℕ) (rows : List Row) → ShardOf bytes rows → shard_of bytes ≡ Ok rows
+says_shard bytes rows s = go (shard_of bytes) refl
+  where
+    go : (r : Result (List Row) FormatFault) → shard_of bytes ≡ r → shard_of bytes ≡ Ok rows
+    go (Ok others) read = read ∙ ap Ok (one_shard bytes others rows (shard_says bytes others read) s)
+    go (Err f) read = absurd (s.no_fault f (shard_faults bytes f read).stands)
+
+-- the first fault is read of bytes in which it stands
+pub faults_shard : (bytes : List ℕ) (f : FormatFault) → IsFirstFault (ShardFault bytes) f → shard_of bytes ≡ Err f
+faults_shard bytes f first = go (shard_of bytes) refl
+  where
+    go : (r : Result (List Row) FormatFault) → shard_of bytes ≡ r → shard_of bytes ≡ Err f
+    go (Ok rows) read = absurd ((shard_says bytes rows read).no_fault f first.stands)
+    go (Err g) read = read ∙ ap Err (one_first (ShardFault bytes) g f (shard_faults bytes g read) first)
+
+-- bytes with which nothing is wrong are a shard
+pub clean_shard : (bytes : List ℕ) → ((f : FormatFault) → ShardFault bytes f → ⊥) → (rows : List Row) × ShardOf bytes rows
+clean_shard bytes clean = go (shard_of bytes) refl
+  where
+    go : (r : Result (List Row) FormatFault) → shard_of bytes ≡ r → (rows : List Row) × ShardOf bytes rows
+    go (Ok rows) read = (rows, shard_says bytes rows read)
+    go (Err f) read = absurd (clean f (shard_faults bytes f read).stands)

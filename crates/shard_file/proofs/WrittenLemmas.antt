@@ -34,7 +34,8 @@ use Rattle.shard_file.specs.Rows.{Row, shard_keys, rows_of, file_lt, ShardOf}
 use Rattle.shard_file.specs.Names.{new_name_from}
 use Rattle.shard_file.specs.Reading.{has_file, file_key_from, file_value_from, files_after, files_from, member_from, shard_from, rows_from}
 use Rattle.shard_file.specs.Writing.{stands_in, rows_under, file_bytes, files_bytes, shard_bytes, row_cmp, IsWritableRow, AreWritable, IsReadableRow, IsRow}
-use Rattle.shard_file.proofs.SortLemmas.{file_order, one_sort}
+use Rattle.mp_codec.proofs.SortingLemmas.{one_sort}
+use Rattle.shard_file.proofs.SortLemmas.{file_order}
 use Rattle.shard_file.proofs.ShardLemmas.{differ, all_rows, shard_is, shard_found}
 
 -- ---- rows that come before others

@@ -1,16 +1,12 @@
 -- What was read so far of a shard, by the places of its keys.
-use Rattle.std.specs.Prelude.{◌≡◌, ℕ, Bool, true, false, List, [], ◌∷◌, Option, Some, None, Result, Ok, Err, IfSome}
+use Rattle.std.specs.Prelude.{ℕ, Bool, true, false, List, [], ◌∷◌, Option, Some, None, IfSome}
 use Rattle.std.specs.declared.alloc.Global.{Global}
 use Rattle.std.specs.declared.vec.Vec.{Vec}
 use Rattle.shard_file.specs.declared.reading.Key.{Key}
 use Rattle.shard_file.specs.declared.reading.Key.TheVariants as key
 use Rattle.shard_file.specs.declared.reading.Found.{Found}
-use Rattle.std.specs.List.Sorted.{IsSortedBy, IsStableBy}
-use Rattle.mp_codec.specs.declared.fault.FormatFault.{FormatFault}
-use Rattle.conda_record.specs.declared.refusal.RecordRefusal.{RecordRefusal}
-use Rattle.conda_record.specs.Reading.{fault_of}
 use Rattle.shard_file.specs.declared.spans.FileSpans.{FileSpans}
-use Rattle.shard_file.specs.Rows.{Row, file_lt}
+use Rattle.shard_file.specs.Rows.{Row}
 use Rattle.shard_file.specs.Spans.{rows_at, AreNamed}
 
 -- the place of a key among the known ones, or their number
@@ -38,11 +34,3 @@ known bytes found = rows_read bytes found.packages ∷ rows_read bytes found.con
 pub record IsNamed (bytes : List ℕ) (found : Found) : Type 0 where
   pub packages : IfSome found.packages (λ rows. AreNamed bytes rows.items)
   pub conda : IfSome found.conda (λ rows. AreNamed bytes rows.items)
-
--- ---- what was read of all the bytes
-
--- rows that were read, in the order of their file names, or the fault of the reading, unless memory ran out
-abbrev pub SortsRows : List ℕ → Result (Vec FileSpans Global) RecordRefusal → Result (List Row) FormatFault → Type 0
-SortsRows bytes (Ok rows) reading =
-    (stood : List Row) × (reading ≡ Ok stood) × IsSortedBy file_lt (rows_at bytes rows.items) × IsStableBy file_lt stood (rows_at bytes rows.items)
-SortsRows bytes (Err e) reading = IfSome (fault_of e) (λ f. reading ≡ Err f)

@@ -7,7 +7,8 @@ use Rattle.gateway_words.specs.Reading.{◌>>=◌}
 use Rattle.mp_codec.specs.declared.fault.FormatFault.{FormatFault}
 use Rattle.mp_codec.specs.Maps.{Read, entries_from, map_from, skipped, unread, known_key_from, known_value_from, known_end_from, all_from}
 use Rattle.conda_record.specs.Reading.{record_from}
-use Rattle.shard_file.specs.Rows.{Row, shard_keys}
+use Rattle.gateway_words.specs.Sorting.{sorted_by}
+use Rattle.shard_file.specs.Rows.{Row, shard_keys, file_lt}
 use Rattle.shard_file.specs.Names.{new_name_from}
 
 -- ---- the files of one map
@@ -65,3 +66,7 @@ shard_from here = map_from (λ n there. pairs_from n (unread shard_keys) there) 
 -- the rows of the shard that some bytes are, in the order in which they stand
 unfoldable pub rows_from : List ℕ → Result (List Row) FormatFault
 rows_from bytes = all_from shard_from bytes
+
+-- what some bytes are as a shard: its rows, ascending by file name and otherwise as they stand, or the first fault
+unfoldable pub shard_of : List ℕ → Result (List Row) FormatFault
+shard_of bytes = rows_from bytes >>= λ rows. Ok (sorted_by file_lt rows)

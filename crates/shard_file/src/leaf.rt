@@ -42,6 +42,8 @@ impl Leaf {
     ghost use Rattle.digest_gate.specs.Digest.{digest_of};
     ghost use Rattle.mp_codec.specs.Fault.{IsFirstFault};
     ghost use Rattle.shard_file.specs.Rows.{Row, ShardOf, ShardFault};
+    ghost use Rattle.gateway_words.specs.Reading.{Gives};
+    ghost use Rattle.shard_file.specs.Reading.{shard_of};
     ghost use Rattle.shard_file.specs.Leaf.{leaf_fault_of, body_back};
 
     /// The shard that the bytes of a body spell, all of the bytes.
@@ -56,6 +58,8 @@ impl Leaf {
         // A fault is the first one.
         ensures fault { IfErr result (λ e.
             IfSome (leaf_fault_of e) (IsFirstFault (ShardFault body))) }
+
+        ensures exact { Gives (λ leaf. leaf.rows) leaf_fault_of result (shard_of body) }
 
         ensures back { MatchResult result (λ leaf. leaf.bytes ≡ body)
             (λ e. body_back e ≡ body) }
@@ -72,6 +76,13 @@ impl Leaf {
             Err(RecordRefusal::Fault(fault)) => Err(LeafRefusal::Fault(fault, body)),
             Err(RecordRefusal::Memory) => Err(LeafRefusal::Memory(body)),
         }
+    }
+
+    /// Says that the rows are those that the bytes spell; it does nothing.
+    pub fn tell(&self)
+        ensures { ∥ ShardOf self.now.bytes self.now.rows ∥₁ }
+    {
+        self.shard.tell();
     }
 
     /// The digest of the shard's bytes. It was kept and costs nothing.

@@ -18,7 +18,7 @@ mod spans;
 mod tests;
 mod writing;
 
-pub use laws::a_written_shard_is_read;
+pub use laws::{a_written_shard_is_read, bytes_are_a_shard_or_have_a_first_fault};
 pub use leaf::{Leaf, LeafRefusal};
 pub use refusal::ShardRefusal;
 pub use shard::{FileRecord, Shard, ShardRow};

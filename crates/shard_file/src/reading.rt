@@ -1,7 +1,7 @@
 //! Reading a shard, key by key.
 
 ghost use Rattle.std.specs.Prelude.{◌≡◌, List, ℕ, Some, None, is_some, slice_index_or, OnOk, OnErr, IfOk};
-ghost use Rattle.std.specs.List.Sorted.{IsSortedBy, IsStableBy};
+ghost use Rattle.gateway_words.specs.Sorting.{sorted_by};
 ghost use Rattle.gateway_words.specs.Reading.{Gives};
 ghost use Rattle.mp_codec.specs.Reading.{Advances};
 ghost use Rattle.mp_codec.specs.Maps.{bytes_behind, place_of, unread, known_key_from, known_value_from};
@@ -9,8 +9,8 @@ ghost use Rattle.conda_record.specs.Reading.{fault_of};
 ghost use Rattle.shard_file.specs.Rows.{shard_keys, file_lt};
 ghost use Rattle.mp_codec.specs.Span.{IsIn};
 ghost use Rattle.shard_file.specs.Spans.{rows_at, AreNamed};
-ghost use Rattle.shard_file.specs.Found.{place, known, IsNamed, SortsRows};
-ghost use Rattle.shard_file.specs.Reading.{member_from, shard_end_from, pairs_from, shard_from, rows_from};
+ghost use Rattle.shard_file.specs.Found.{place, known, IsNamed};
+ghost use Rattle.shard_file.specs.Reading.{member_from, shard_end_from, pairs_from, shard_from, rows_from, shard_of};
 
 use crate::files::files;
 use crate::spans::FileSpans;
@@ -183,8 +183,9 @@ fn shard_here(alloc: Global, cur: &mut Cursor<'_>) -> Result<Vec<FileSpans>, Rec
 }
 
 // The rows of the shard that some bytes are, in the order of their file names.
+#[tactic(auto, unfolding(crate::specs::Reading::shard_of))]
 pub(crate) fn sorted_rows(alloc: Global, bytes: &[u8]) -> Result<Vec<FileSpans>, RecordRefusal>
-    ensures { SortsRows bytes.now result (rows_from bytes.now) }
+    ensures { Gives (λ rows. rows_at bytes.now rows.items) fault_of result (shard_of bytes.now) }
 {
     let mut rows = rows(alloc, bytes)?;
     sort(bytes, &mut rows)?;
@@ -212,9 +213,8 @@ fn rows(alloc: Global, bytes: &[u8]) -> Result<Vec<FileSpans>, RecordRefusal>
 // Puts rows in the order of their file names; rows of one name stay as they stood.
 fn sort(bytes: &[u8], rows: &mut Vec<FileSpans>) -> Result<(), AllocError>
     requires { AreNamed bytes.now rows.old.items }
-    ensures ascending { OnOk result (IsSortedBy file_lt (rows_at bytes.now rows.new.items)) }
-    ensures in_order { IsStableBy file_lt (rows_at bytes.now rows.old.items)
-        (rows_at bytes.now rows.new.items) }
+    ensures { OnOk result
+        (rows_at bytes.now rows.new.items ≡ sorted_by file_lt (rows_at bytes.now rows.old.items)) }
 {
     rows.sort_by(|a, b| a.name(bytes).cmp(b.name(bytes)))
 }

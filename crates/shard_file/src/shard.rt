@@ -38,8 +38,8 @@ pub struct ShardRow<'a> {
     pub view: RecordView<'a>,
 }
 
-/// The rows of some bytes, with the bytes, which are kept once: a row is places in them. Contracts
-/// see both.
+/// A shard: the rows of some bytes, with the bytes, which are kept once: a row is places in them.
+/// Contracts see both; the rows are those that the bytes spell, by this type.
 #[derive(Debug, Drop)]
 pub struct Shard {
     pub(crate) bytes: Vec<u8>,
@@ -47,7 +47,7 @@ pub struct Shard {
 }
 
 impl Model for Shard {
-    ghost use Rattle.shard_file.specs.Rows.{Contents};
+    ghost use Rattle.shard_file.specs.Rows.{Contents, ShardOf};
     ghost use Rattle.shard_file.specs.Spans.{rows_at};
 
     ghost Value = { Contents };
@@ -56,6 +56,9 @@ impl Model for Shard {
       bytes = shard.bytes.items;
       rows = rows_at shard.bytes.items shard.rows.items;
     } };
+
+    ghost invariant = { λ shard.
+      ∥ ShardOf shard.bytes.items (rows_at shard.bytes.items shard.rows.items) ∥₁ };
 }
 
 impl Shard {
@@ -63,6 +66,8 @@ impl Shard {
     ghost use Rattle.std.specs.Option.{option_map};
     ghost use Rattle.mp_codec.specs.Fault.{IsFirstFault};
     ghost use Rattle.shard_file.specs.Rows.{Row, ShardOf, ShardFault};
+    ghost use Rattle.gateway_words.specs.Reading.{Gives};
+    ghost use Rattle.shard_file.specs.Reading.{shard_of};
     ghost use Rattle.shard_file.specs.Seen.{row_seen, fault_of, bytes_back};
 
     /// The shard that the bytes spell, all of the bytes.
@@ -82,6 +87,8 @@ impl Shard {
         ensures fault { IfErr result (λ e.
             IfSome (fault_of e) (IsFirstFault (ShardFault bytes.items))) }
 
+        ensures exact { Gives (λ shard. shard.rows) fault_of result (shard_of bytes.items) }
+
         ensures back { MatchResult result (λ shard. shard.bytes ≡ bytes.items)
             (λ e. bytes_back e ≡ bytes.items) }
     {
@@ -90,6 +97,12 @@ impl Shard {
             Err(RecordRefusal::Fault(fault)) => Err(ShardRefusal::Fault(fault, bytes)),
             Err(RecordRefusal::Memory) => Err(ShardRefusal::Memory(bytes)),
         }
+    }
+
+    /// Says that the rows are those that the bytes spell; it does nothing.
+    pub fn tell(&self)
+        ensures { ∥ ShardOf self.now.bytes self.now.rows ∥₁ }
+    {
     }
 
     /// How many rows the shard has.

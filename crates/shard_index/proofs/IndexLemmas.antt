@@ -19,15 +19,18 @@ use Rattle.mp_codec.proofs.UniqueLemmas.{one_value}
 use Rattle.shard_index.specs.Version.{VersionFault, version_from}
 use Rattle.shard_index.specs.Info.{Info, info_in, info_of, InfoFault, info_from}
 use Rattle.shard_index.specs.Index.{Listed, Contents, name_lt, shards_key, version_key, info_key, index_keys, listed_of, listed_in, ShardsFault, index_rules, IndexFault, IndexOf}
-use Rattle.shard_index.specs.Reading.{Datum, Shards, Version, Infos, listed_from, member_from, contents_read, index_end_from, index_from, contents_from}
+use Rattle.shard_index.specs.Reading.{Datum, Shards, Version, Infos, listed_from, member_from, contents_read, index_end_from, index_from, contents_from, index_of}
 use Rattle.shard_index.specs.declared.refusal.IndexRefusal.{IndexRefusal}
 use Rattle.shard_index.specs.declared.refusal.IndexRefusal.TheVariants as refusal
 use Rattle.shard_index.specs.Seen.{fault_of}
-use Rattle.shard_index.specs.Found.{SortsNames}
 use Rattle.shard_index.proofs.VersionLemmas.{IsVersion, version_judged, version_stands}
 use Rattle.shard_index.proofs.InfoLemmas.{IsInfo, info_judged, info_behind}
 use Rattle.shard_index.proofs.ListedLemmas.{AreListed, listed_judged, listed_behind}
-use Rattle.shard_index.proofs.SortLemmas.{name_order, one_sort}
+use Rattle.shard_index.proofs.SortLemmas.{name_order}
+use Rattle.gateway_words.specs.Sorting.{sorted_by}
+use Rattle.gateway_words.specs.Reading.{◌>>=◌, Gives}
+use Rattle.mp_codec.proofs.SortingLemmas.{one_sort, sorted_is_sorted, sorted_is_stable}
+use Rattle.mp_codec.proofs.FirstLemmas.{one_first}
 
 -- ---- the values of the known keys
 
@@ -172,24 +175,63 @@ one_index bytes c d s t =
     let listed : c.listed ≡ d.listed = one_sort name_lt name_order c.listed d.listed s.ascending t.ascending (λ x. t.in_order x ∙ sym (in_order x)) in
     λ i. record { info = info i; listed = listed i }
 
--- an index has no fault
-pub index_no_fault : (bytes : List ℕ) (contents : Contents) (f : FormatFault) → IndexOf bytes contents → contents_from bytes ≡ Err f → ⊥
-index_no_fault bytes contents f s e = s.no_fault f (index_first bytes f e).stands
+-- what is read of an index is what it says
+pub index_says : (bytes : List ℕ) (contents : Contents) → index_of bytes ≡ Ok contents → IndexOf bytes contents
+unfolding index_of
+index_says bytes contents e = go (contents_from bytes) refl e
+  where
+    go : (r : Result Contents FormatFault) → contents_from bytes ≡ r → (r >>= λ c. Ok (record { info = c.info; listed = sorted_by name_lt c.listed })) ≡ Ok contents → IndexOf bytes contents
+    go (Ok c) read is =
+        let same : record { info = c.info; listed = sorted_by name_lt c.listed } ≡ contents = cc in
+        subst (λ (d : Contents). IndexOf bytes d) same
+        (index_found bytes c.info c.listed (sorted_by name_lt c.listed) read (sorted_is_sorted name_lt name_order c.listed) (sorted_is_stable name_lt name_order c.listed))
+    go (Err f) read is = absurd cc
 
--- an index with these contents is read with these contents
-index_only : (bytes : List ℕ) (c d : Contents) (stood : List Listed) → contents_from bytes ≡ Ok (record { info = c.info; listed = stood }) → IsSortedBy name_lt c.listed → IsStableBy name_lt stood c.listed → IndexOf bytes d → c ≡ d
-index_only bytes c d stood e up stable s = one_index bytes c d (index_found bytes c.info stood c.listed e up stable) s
+-- what is read of bytes that are no index is their first fault
+pub index_faults : (bytes : List ℕ) (f : FormatFault) → index_of bytes ≡ Err f → IsFirstFault (IndexFault bytes) f
+unfolding index_of
+index_faults bytes f e = go (contents_from bytes) refl e
+  where
+    go : (r : Result Contents FormatFault) → contents_from bytes ≡ r → (r >>= λ c. Ok (record { info = c.info; listed = sorted_by name_lt c.listed })) ≡ Err f → IsFirstFault (IndexFault bytes) f
+    go (Ok c) read is = absurd cc
+    go (Err g) read is = let same : g ≡ f = cc in subst (IsFirstFault (IndexFault bytes)) same (index_first bytes g read)
 
-pub read_found : (bytes : List ℕ) (r : Result Contents IndexRefusal) → SortsNames r (contents_from bytes) → IfOk r (λ index. IndexOf bytes index)
-read_found bytes (Ok c) s = index_found bytes c.info s.0 c.listed s.1 s.2 s.3
-read_found bytes (Err e) s = tt
+-- what an index says is read of it
+pub says_index : (bytes : List ℕ) (contents : Contents) → IndexOf bytes contents → index_of bytes ≡ Ok contents
+says_index bytes contents s = go (index_of bytes) refl
+  where
+    go : (r : Result Contents FormatFault) → index_of bytes ≡ r → index_of bytes ≡ Ok contents
+    go (Ok other) read = read ∙ ap Ok (one_index bytes other contents (index_says bytes other read) s)
+    go (Err f) read = absurd (s.no_fault f (index_faults bytes f read).stands)
 
-pub read_only : (bytes : List ℕ) (r : Result Contents IndexRefusal) → SortsNames r (contents_from bytes) → (contents : Contents) → IndexOf bytes contents → MatchResult r (λ index. index ≡ contents) (λ e. e ≡ refusal.Memory)
-read_only bytes (Ok c) s contents is = index_only bytes c contents s.0 s.1 s.2 s.3 is
-read_only bytes (Err (refusal.Fault f)) s contents is = absurd (index_no_fault bytes contents f is s)
-read_only bytes (Err refusal.Memory) s contents is = refl
+-- the first fault is read of bytes in which it stands
+pub faults_index : (bytes : List ℕ) (f : FormatFault) → IsFirstFault (IndexFault bytes) f → index_of bytes ≡ Err f
+faults_index bytes f first = go (index_of bytes) refl
+  where
+    go : (r : Result Contents FormatFault) → index_of bytes ≡ r → index_of bytes ≡ Err f
+    go (Ok contents) read = absurd ((index_says bytes contents read).no_fault f first.stands)
+    go (Err g) read = read ∙ ap Err (one_first (IndexFault bytes) g f (index_faults bytes g read) first)
 
-pub read_first : (bytes : List ℕ) (r : Result Contents IndexRefusal) → SortsNames r (contents_from bytes) → IfErr r (λ e. IfSome (fault_of e) (IsFirstFault (IndexFault bytes)))
-read_first bytes (Ok c) s = tt
-read_first bytes (Err (refusal.Fault f)) s = index_first bytes f s
-read_first bytes (Err refusal.Memory) s = tt
+-- bytes with which nothing is wrong are an index
+pub clean_index : (bytes : List ℕ) → ((f : FormatFault) → IndexFault bytes f → ⊥) → (contents : Contents) × IndexOf bytes contents
+clean_index bytes clean = go (index_of bytes) refl
+  where
+    go : (r : Result Contents FormatFault) → index_of bytes ≡ r → (contents : Contents) × IndexOf bytes contents
+    go (Ok contents) read = (contents, index_says bytes contents read)
+    go (Err f) read = absurd (clean f (index_faults bytes f read).stands)
+
+-- ---- what a call that reads an index gave
+
+pub read_found : (bytes : List ℕ) (r : Result Contents IndexRefusal) → Gives (λ c. c) fault_of r (index_of bytes) → IfOk r (λ index. IndexOf bytes index)
+read_found bytes (Ok c) read = index_says bytes c read
+read_found bytes (Err e) read = tt
+
+pub read_only : (bytes : List ℕ) (r : Result Contents IndexRefusal) → Gives (λ c. c) fault_of r (index_of bytes) → (contents : Contents) → IndexOf bytes contents → MatchResult r (λ index. index ≡ contents) (λ e. e ≡ refusal.Memory)
+read_only bytes (Ok c) read contents is = one_index bytes c contents (index_says bytes c read) is
+read_only bytes (Err (refusal.Fault f)) read contents is = absurd (is.no_fault f (index_faults bytes f read).stands)
+read_only bytes (Err refusal.Memory) read contents is = refl
+
+pub read_first : (bytes : List ℕ) (r : Result Contents IndexRefusal) → Gives (λ c. c) fault_of r (index_of bytes) → IfErr r (λ e. IfSome (fault_of e) (IsFirstFault (IndexFault bytes)))
+read_first bytes (Ok c) read = tt
+read_first bytes (Err (refusal.Fault f)) read = index_faults bytes f read
+read_first bytes (Err refusal.Memory) read = tt

@@ -1,8 +1,5 @@
 -- What was read so far of an index and of its info, by the places of the keys.
-use Rattle.std.specs.Prelude.{◌≡◌, ℕ, Bool, true, false, List, [], ◌∷◌, Option, Some, None, Result, Ok, Err, IfSome}
-use Rattle.std.specs.List.Sorted.{IsSortedBy, IsStableBy}
-use Rattle.mp_codec.specs.declared.fault.FormatFault.{FormatFault}
-use Rattle.shard_index.specs.declared.refusal.IndexRefusal.{IndexRefusal}
+use Rattle.std.specs.Prelude.{ℕ, Bool, true, false, List, [], ◌∷◌, Option, Some, None}
 use Rattle.shard_index.specs.declared.info.InfoKey.{InfoKey}
 use Rattle.shard_index.specs.declared.info.InfoKey.TheVariants as info_key
 use Rattle.shard_index.specs.declared.info.FoundInfo.{FoundInfo}
@@ -10,9 +7,8 @@ use Rattle.shard_index.specs.declared.reading.Key.{Key}
 use Rattle.shard_index.specs.declared.reading.Key.TheVariants as key
 use Rattle.shard_index.specs.declared.reading.Found.{Found}
 use Rattle.shard_index.specs.Info.{Info}
-use Rattle.shard_index.specs.Index.{Listed, Contents, name_lt}
+use Rattle.shard_index.specs.Index.{Listed}
 use Rattle.shard_index.specs.Reading.{Datum, Shards, Version, Infos}
-use Rattle.shard_index.specs.Seen.{fault_of}
 
 -- ---- info
 
@@ -60,11 +56,3 @@ info_datum_read None = None
 -- what was found of an index, by the places of the keys
 abbrev pub known : Found → List (Option Datum)
 known found = shards_read found.shards ∷ version_read found.version ∷ info_datum_read found.info ∷ []
-
--- ---- what was read of all the bytes
-
--- what was read, with its names in their order, or the fault of the reading, unless memory ran out
-abbrev pub SortsNames : Result Contents IndexRefusal → Result Contents FormatFault → Type 0
-SortsNames (Ok contents) reading = (stood : List Listed) × (reading ≡ Ok (record { info = contents.info; listed = stood }))
-    × IsSortedBy name_lt contents.listed × IsStableBy name_lt stood contents.listed
-SortsNames (Err e) reading = IfSome (fault_of e) (λ f. reading ≡ Err f)

@@ -9,7 +9,8 @@ use Rattle.mp_codec.specs.Maps.{Read, entries_from, map_from, unread, known_key_
 use Rattle.shard_index.specs.Digests.{digest_from}
 use Rattle.shard_index.specs.Version.{version_from}
 use Rattle.shard_index.specs.Info.{Info, info_in, info_from}
-use Rattle.shard_index.specs.Index.{Listed, Contents, index_keys}
+use Rattle.gateway_words.specs.Sorting.{sorted_by}
+use Rattle.shard_index.specs.Index.{Listed, Contents, index_keys, name_lt}
 use Rattle.shard_index.specs.Names.{new_name_from}
 
 -- ---- the map from names to digests
@@ -85,3 +86,7 @@ index_from here = map_from (λ n there. index_pairs_from n (unread index_keys) t
 -- what the index says that some bytes are, with the names in the order in which they stand
 unfoldable pub contents_from : List ℕ → Result Contents FormatFault
 contents_from bytes = all_from index_from bytes
+
+-- what some bytes say as an index, with its names ascending, or the first fault
+unfoldable pub index_of : List ℕ → Result Contents FormatFault
+index_of bytes = contents_from bytes >>= λ c. Ok (record { info = c.info; listed = sorted_by name_lt c.listed })

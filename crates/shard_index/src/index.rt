@@ -31,8 +31,8 @@ impl Index {
     ghost use Rattle.std.specs.Prelude.{◌≡◌, length, IfOk, IfErr, IfSome, MatchResult};
     ghost use Rattle.mp_codec.specs.Fault.{IsFirstFault};
     ghost use Rattle.shard_index.specs.Index.{Contents, IndexOf, IndexFault, digest_at};
-    ghost use Rattle.shard_index.specs.Found.{SortsNames};
-    ghost use Rattle.shard_index.specs.Reading.{contents_from};
+    ghost use Rattle.gateway_words.specs.Reading.{Gives};
+    ghost use Rattle.shard_index.specs.Reading.{index_of};
     ghost use Rattle.shard_index.specs.Seen.{fault_of};
 
     /// The index that the bytes spell, all of the bytes.
@@ -50,8 +50,9 @@ impl Index {
         // A fault is the first one.
         ensures fault { IfErr result (λ e.
             IfSome (fault_of e) (IsFirstFault (IndexFault bytes.now))) }
+        ensures exact { Gives (λ index. index) fault_of result (index_of bytes.now) }
     {
-        sorted(alloc, bytes)
+        Index::sorted(alloc, bytes)
     }
 
     /// The digest that is listed for a name, byte by byte, or None where the name isn't listed. It
@@ -91,14 +92,19 @@ impl Index {
     }
 }
 
-ghost use Rattle.shard_index.specs.Found.{SortsNames};
-ghost use Rattle.shard_index.specs.Reading.{contents_from};
+impl Index {
+    ghost use Rattle.std.specs.Prelude.{◌≡◌};
+    ghost use Rattle.gateway_words.specs.Reading.{Gives};
+    ghost use Rattle.shard_index.specs.Reading.{index_of};
+    ghost use Rattle.shard_index.specs.Seen.{fault_of};
 
-// What the index says that some bytes are, with its names in their order.
-fn sorted(alloc: Global, bytes: &[u8]) -> Result<Index, IndexRefusal>
-    ensures { SortsNames result (contents_from bytes.now) }
-{
-    let Unsorted { info, mut listing } = as_they_stand(alloc, bytes)?;
-    listing.sort()?;
-    Ok(Index { info, listing })
+    // What the index says that some bytes are, with its names in their order.
+    #[tactic(auto, unfolding(crate::specs::Reading::index_of))]
+    fn sorted(alloc: Global, bytes: &[u8]) -> Result<Index, IndexRefusal>
+        ensures { Gives (λ index. index) fault_of result (index_of bytes.now) }
+    {
+        let Unsorted { info, mut listing } = as_they_stand(alloc, bytes)?;
+        listing.sort()?;
+        Ok(Index { info, listing })
+    }
 }

@@ -20,6 +20,6 @@ mod version;
 mod writing;
 
 pub use index::Index;
-pub use laws::{a_written_index_is_read, bytes_are_one_index};
+pub use laws::{a_written_index_is_read, bytes_are_an_index_or_have_a_first_fault};
 pub use refusal::IndexRefusal;
 pub use writing::{IndexRow, write_index};

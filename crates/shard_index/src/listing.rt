@@ -1,9 +1,10 @@
 //! The names that an index lists, each once, with their digests.
 
 ghost use Rattle.std.specs.Prelude.{◌≡◌, ◌||◌, length, IfOk, OnOk, [], List, ℕ, false};
-ghost use Rattle.std.specs.List.Sorted.{IsSortedBy, IsStableBy};
+ghost use Rattle.std.specs.List.Sorted.{IsSortedBy};
 ghost use Rattle.std.specs.Str.{bytes_eq};
 ghost use Rattle.gateway_words.specs.Reading.{Gives};
+ghost use Rattle.gateway_words.specs.Sorting.{sorted_by};
 ghost use Rattle.shard_index.specs.Index.{digest_at, name_lt};
 ghost use Rattle.shard_index.specs.Names.{has_name, new_name_from};
 ghost use Rattle.shard_index.specs.Reading.{listed_after, listed_from};
@@ -63,8 +64,7 @@ impl Listing {
 
     // Puts the names in their order.
     pub(crate) fn sort(&mut self) -> Result<(), AllocError>
-        ensures ascending { OnOk result (IsSortedBy name_lt self.new) }
-        ensures in_order { IsStableBy name_lt self.old self.new }
+        ensures { OnOk result (self.new ≡ sorted_by name_lt self.old) }
     {
         self.entries
             .sort_by(|a, b| a.name.as_str().cmp(b.name.as_str()))

@@ -1,13 +1,8 @@
-use Rattle.std.proofs.Common.{ap}
-use Rattle.shard_file.specs.Writing.{shard_bytes}
 use Rattle.shard_file.proofs.WrittenLemmas.{read_again, same_rows, shortest_shard}
 use Rattle.shard_file.proofs.laws.a_written_shard_is_read.Goals as goal
 
 pub returns-clause-read : goal.returns-clause-read
 returns-clause-read c = read_again
-
-pub returns-clause-equal : goal.returns-clause-equal
-returns-clause-equal c = λ rows others e. ap shard_bytes e
 
 pub returns-clause-apart : goal.returns-clause-apart
 returns-clause-apart c = same_rows
