@@ -5,6 +5,10 @@ use Rattle.std.specs.Prelude.{ℕ}
 abbrev pub newline : ℕ
 newline = 0x0a
 
+-- a carriage return
+abbrev pub carriage_return : ℕ
+carriage_return = 0x0d
+
 -- a blank
 abbrev pub space : ℕ
 space = 0x20
@@ -12,6 +16,10 @@ space = 0x20
 -- `!`
 abbrev pub exclamation_mark : ℕ
 exclamation_mark = 0x21
+
+-- `#`
+abbrev pub number_sign : ℕ
+number_sign = 0x23
 
 -- `(`
 abbrev pub left_parenthesis : ℕ
@@ -41,6 +49,10 @@ dash = 0x2d
 abbrev pub dot : ℕ
 dot = 0x2e
 
+-- `/`
+abbrev pub slash : ℕ
+slash = 0x2f
+
 -- `:`
 abbrev pub colon : ℕ
 colon = 0x3a
@@ -60,6 +72,10 @@ greater_than_sign = 0x3e
 -- `?`
 abbrev pub question_mark : ℕ
 question_mark = 0x3f
+
+-- `@`
+abbrev pub commercial_at : ℕ
+commercial_at = 0x40
 
 -- `_`
 abbrev pub underscore : ℕ

@@ -1,5 +1,6 @@
 -- A stable sort has one result, which is the list sorted.
-use Rattle.std.proofs.Common.{◌≡◌, refl, sym, ◌∙◌, ap, subst, ℕ, zero, suc, ◌+◌, ◌<◌, ◌≤◌, Bool, true, false, not, cond, ◌&&◌, List, [], ◌∷◌, length, get_or, filter, arith}
+use Rattle.std.proofs.Common.{◌≡◌, refl, sym, ◌∙◌, ap, subst, ℕ, zero, suc, ◌+◌, ◌<◌, ◌≤◌, Bool, true, false, not, cond, ◌&&◌, List, [], ◌∷◌, length, get_or, filter, arith, true≢false}
+use Rattle.std.specs.Prelude.{⊤}
 use Rattle.std.specs.Cmp.{IsStrictWeakOrder}
 use Rattle.std.specs.List.Sorted.{IsSortedBy, IsStableBy, ties}
 use Rattle.std.proofs.lemmas.List.Sorted.{sorted_far}
@@ -55,14 +56,16 @@ module _ {X : Type 0} (lt : X → X → Bool) (o : IsStrictWeakOrder lt) where
   -- ---- the list sorted
 
   -- the first element of a list is not less than y, if there is one
-  IsBehind : X → List X → Type 0
+  abbrev IsBehind : X → List X → Type 0
   IsBehind y [] = ⊤
   IsBehind y (x ∷ xs) = lt x y ≡ false
 
   put_in_front : (y : X) (xs : List X) → IsBehind y xs → IsSortedBy lt xs → IsSortedBy lt (y ∷ xs)
   put_in_front y [] h up k d low high = absurd (omega (arith, high))
   put_in_front y (x ∷ xs) h up zero d low high = h
-  put_in_front y (x ∷ xs) h up (suc k) d low high = up k d (omega arith) (omega (arith, high))
+  put_in_front y (x ∷ xs) h up (suc k) d low high =
+      let at : suc (k + 1) ≡ suc k + 1 = omega arith in
+      subst (λ (i : ℕ). lt (get_or (y ∷ x ∷ xs) i d) (get_or (x ∷ xs) k d) ≡ false) at (up k d (omega arith) (omega (arith, high)))
 
   front_of : (y : X) (xs : List X) → IsSortedBy lt (y ∷ xs) → IsBehind y xs
   front_of y [] up = tt
@@ -77,7 +80,7 @@ module _ {X : Type 0} (lt : X → X → Bool) (o : IsStrictWeakOrder lt) where
       go false = h
 
   placed_sorted : (x : X) (xs : List X) → IsSortedBy lt xs → IsSortedBy lt (placed_by lt x xs)
-  placed_sorted x [] up k d low high = absurd (omega (arith, high))
+  placed_sorted x [] up = λ k d low high. absurd (omega (arith, high))
   placed_sorted x (y ∷ ys) up = go (lt y x) refl (placed_sorted x ys (tail_sorted y ys up))
     where
       go : (c : Bool) → lt y x ≡ c → IsSortedBy lt (placed_by lt x ys) → IsSortedBy lt (cond c (y ∷ placed_by lt x ys) (x ∷ y ∷ ys))
@@ -86,7 +89,7 @@ module _ {X : Type 0} (lt : X → X → Bool) (o : IsStrictWeakOrder lt) where
 
   -- the list sorted is sorted
   pub sorted_is_sorted : (xs : List X) → IsSortedBy lt (sorted_by lt xs)
-  sorted_is_sorted [] k d low high = absurd (omega (arith, high))
+  sorted_is_sorted [] = λ k d low high. absurd (omega (arith, high))
   sorted_is_sorted (x ∷ xs) = placed_sorted x (sorted_by lt xs) (sorted_is_sorted xs)
 
   both_tie : (z x y : X) → ties lt z x ≡ true → ties lt z y ≡ true → lt y x ≡ false
@@ -111,9 +114,9 @@ module _ {X : Type 0} (lt : X → X → Bool) (o : IsStrictWeakOrder lt) where
       with_x : Bool → List X → List X
       with_x b zs = cond b (x ∷ zs) zs
       swap : (a b : Bool) → (a ≡ true → b ≡ true → ⊥) → with_y b (with_x a rest) ≡ with_x a (with_y b rest)
-      swap true true no = absurd (no refl refl)
-      swap true false no = refl
-      swap false b no = refl
+      swap true true differ = absurd (differ refl refl)
+      swap true false _ = refl
+      swap false b _ = refl
       go : (c : Bool) → lt y x ≡ c → (a : Bool) → ties lt z x ≡ a → (b : Bool) → ties lt z y ≡ b
           → filter (ties lt z) (placed_by lt x ys) ≡ with_x (ties lt z x) rest
           → filter (ties lt z) (cond c (y ∷ placed_by lt x ys) (x ∷ y ∷ ys)) ≡ with_x (ties lt z x) (with_y (ties lt z y) rest)

@@ -1,6 +1,6 @@
 //! Laws of shards, each the contract of a function with no body.
 
-ghost use Rattle.std.specs.Prelude.{◌≡◌, ◌↔◌, ⊥, ℕ, List, Ok, Err};
+ghost use Rattle.std.specs.Prelude.{◌≡◌, ◌↔◌, ℕ, List, Ok, Err};
 ghost use Rattle.std.specs.List.{All};
 ghost use Rattle.mp_codec.specs.Value.{Value};
 ghost use Rattle.mp_codec.specs.Spelling.{Spells};

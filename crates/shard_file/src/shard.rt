@@ -58,7 +58,7 @@ impl Model for Shard {
     } };
 
     ghost invariant = { λ shard.
-      ∥ ShardOf shard.bytes.items (rows_at shard.bytes.items shard.rows.items) ∥₁ };
+        ∥ ShardOf shard.bytes.items (rows_at shard.bytes.items shard.rows.items) ∥₁ };
 }
 
 impl Shard {
@@ -103,6 +103,7 @@ impl Shard {
     pub fn tell(&self)
         ensures { ∥ ShardOf self.now.bytes self.now.rows ∥₁ }
     {
+        let _rows = &self.rows;
     }
 
     /// How many rows the shard has.

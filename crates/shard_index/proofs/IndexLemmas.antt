@@ -19,7 +19,7 @@ use Rattle.mp_codec.proofs.UniqueLemmas.{one_value}
 use Rattle.shard_index.specs.Version.{VersionFault, version_from}
 use Rattle.shard_index.specs.Info.{Info, info_in, info_of, InfoFault, info_from}
 use Rattle.shard_index.specs.Index.{Listed, Contents, name_lt, shards_key, version_key, info_key, index_keys, listed_of, listed_in, ShardsFault, index_rules, IndexFault, IndexOf}
-use Rattle.shard_index.specs.Reading.{Datum, Shards, Version, Infos, listed_from, member_from, contents_read, index_end_from, index_from, contents_from, index_of}
+use Rattle.shard_index.specs.Reading.{Datum, Shards, Version, Infos, listed_from, member_from, contents_read, index_end_from, index_from, contents_from, in_name_order, index_of}
 use Rattle.shard_index.specs.declared.refusal.IndexRefusal.{IndexRefusal}
 use Rattle.shard_index.specs.declared.refusal.IndexRefusal.TheVariants as refusal
 use Rattle.shard_index.specs.Seen.{fault_of}
@@ -180,9 +180,9 @@ pub index_says : (bytes : List ℕ) (contents : Contents) → index_of bytes ≡
 unfolding index_of
 index_says bytes contents e = go (contents_from bytes) refl e
   where
-    go : (r : Result Contents FormatFault) → contents_from bytes ≡ r → (r >>= λ c. Ok (record { info = c.info; listed = sorted_by name_lt c.listed })) ≡ Ok contents → IndexOf bytes contents
+    go : (r : Result Contents FormatFault) → contents_from bytes ≡ r → (r >>= λ (c : Contents). Ok (in_name_order c)) ≡ Ok contents → IndexOf bytes contents
     go (Ok c) read is =
-        let same : record { info = c.info; listed = sorted_by name_lt c.listed } ≡ contents = cc in
+        let same : in_name_order c ≡ contents = cc in
         subst (λ (d : Contents). IndexOf bytes d) same
         (index_found bytes c.info c.listed (sorted_by name_lt c.listed) read (sorted_is_sorted name_lt name_order c.listed) (sorted_is_stable name_lt name_order c.listed))
     go (Err f) read is = absurd cc
@@ -192,7 +192,7 @@ pub index_faults : (bytes : List ℕ) (f : FormatFault) → index_of bytes ≡ E
 unfolding index_of
 index_faults bytes f e = go (contents_from bytes) refl e
   where
-    go : (r : Result Contents FormatFault) → contents_from bytes ≡ r → (r >>= λ c. Ok (record { info = c.info; listed = sorted_by name_lt c.listed })) ≡ Err f → IsFirstFault (IndexFault bytes) f
+    go : (r : Result Contents FormatFault) → contents_from bytes ≡ r → (r >>= λ (c : Contents). Ok (in_name_order c)) ≡ Err f → IsFirstFault (IndexFault bytes) f
     go (Ok c) read is = absurd cc
     go (Err g) read is = let same : g ≡ f = cc in subst (IsFirstFault (IndexFault bytes)) same (index_first bytes g read)
 
@@ -219,6 +219,14 @@ clean_index bytes clean = go (index_of bytes) refl
     go : (r : Result Contents FormatFault) → index_of bytes ≡ r → (contents : Contents) × IndexOf bytes contents
     go (Ok contents) read = (contents, index_says bytes contents read)
     go (Err f) read = absurd (clean f (index_faults bytes f read).stands)
+
+-- what was read, with its names sorted, is an index of some bytes
+pub sorted_holds : (bytes : List ℕ) (c : Contents) (listed : List Listed) → contents_from bytes ≡ Ok c → listed ≡ sorted_by name_lt c.listed
+    → IsSortedBy name_lt listed × ∥ ((x : List ℕ) × IndexOf x (record { info = c.info; listed = listed })) ∥₁
+sorted_holds bytes c listed read is =
+    let ascending : IsSortedBy name_lt listed = subst (IsSortedBy name_lt) (sym is) (sorted_is_sorted name_lt name_order c.listed) in
+    let stable : IsStableBy name_lt c.listed listed = subst (IsStableBy name_lt c.listed) (sym is) (sorted_is_stable name_lt name_order c.listed) in
+    (ascending, ∣ (bytes, index_found bytes c.info c.listed listed read ascending stable) ∣₁)
 
 -- ---- what a call that reads an index gave
 

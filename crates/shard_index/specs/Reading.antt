@@ -87,6 +87,10 @@ index_from here = map_from (λ n there. index_pairs_from n (unread index_keys) t
 unfoldable pub contents_from : List ℕ → Result Contents FormatFault
 contents_from bytes = all_from index_from bytes
 
+-- the same with the names ascending
+abbrev pub in_name_order : Contents → Contents
+in_name_order c = record { info = c.info; listed = sorted_by name_lt c.listed }
+
 -- what some bytes say as an index, with its names ascending, or the first fault
 unfoldable pub index_of : List ℕ → Result Contents FormatFault
-index_of bytes = contents_from bytes >>= λ c. Ok (record { info = c.info; listed = sorted_by name_lt c.listed })
+index_of bytes = contents_from bytes >>= λ c. Ok (in_name_order c)

@@ -9,7 +9,7 @@ use std::alloc::Global;
 use std::marker::Model;
 
 /// The names of the packages that a subdir has, with the digest of each name's shard, and where its
-/// packages and shards stand. Contracts see its `Contents`.
+/// packages and shards stand. Contracts see its `Contents`, which some bytes spell, by this type.
 #[derive(Debug, Drop)]
 pub struct Index {
     info: Info,
@@ -17,20 +17,23 @@ pub struct Index {
 }
 
 impl Model for Index {
+    ghost use Rattle.std.specs.Prelude.{List, ℕ};
     ghost use Rattle.std.specs.List.Sorted.{IsSortedBy};
-    ghost use Rattle.shard_index.specs.Index.{Contents, name_lt};
+    ghost use Rattle.shard_index.specs.Index.{Contents, IndexOf, name_lt};
 
     ghost Value = { Contents };
 
     ghost view = { λ index. record { info = index.info; listed = index.listing } };
 
-    ghost invariant = { λ index. IsSortedBy name_lt index.listing };
+    ghost invariant = { λ index. IsSortedBy name_lt index.listing
+        × ∥ ((bytes : List ℕ) × IndexOf bytes (record { info = index.info; listed = index.listing })) ∥₁ };
 }
 
 impl Index {
-    ghost use Rattle.std.specs.Prelude.{◌≡◌, length, IfOk, IfErr, IfSome, MatchResult};
+    ghost use Rattle.std.specs.Prelude.{◌≡◌, List, ℕ, length, IfOk, IfErr, IfSome, MatchResult};
+    ghost use Rattle.std.specs.List.Sorted.{IsSortedBy};
     ghost use Rattle.mp_codec.specs.Fault.{IsFirstFault};
-    ghost use Rattle.shard_index.specs.Index.{Contents, IndexOf, IndexFault, digest_at};
+    ghost use Rattle.shard_index.specs.Index.{Contents, IndexOf, IndexFault, name_lt, digest_at};
     ghost use Rattle.gateway_words.specs.Reading.{Gives};
     ghost use Rattle.shard_index.specs.Reading.{index_of};
     ghost use Rattle.shard_index.specs.Seen.{fault_of};
@@ -53,6 +56,14 @@ impl Index {
         ensures exact { Gives (λ index. index) fault_of result (index_of bytes.now) }
     {
         Index::sorted(alloc, bytes)
+    }
+
+    /// Says that there are bytes of which this is the index; it does nothing.
+    pub fn tell(&self)
+        ensures read { ∥ ((bytes : List ℕ) × IndexOf bytes self.now) ∥₁ }
+        ensures ascending { IsSortedBy name_lt self.now.listed }
+    {
+        let _listing = &self.listing;
     }
 
     /// The digest that is listed for a name, byte by byte, or None where the name isn't listed. It

@@ -1,6 +1,6 @@
 //! Laws of the indexes that are written and read, each the contract of a function with no body.
 
-ghost use Rattle.std.specs.Prelude.{◌≡◌, ◌↔◌, ⊥, true, List, ℕ, Ok, Err};
+ghost use Rattle.std.specs.Prelude.{◌≡◌, ◌↔◌, true, List, ℕ, Ok, Err};
 ghost use Rattle.std.specs.List.{All};
 ghost use Rattle.std.specs.Str.{is_utf8};
 ghost use Rattle.mp_codec.specs.declared.fault.FormatFault.{FormatFault};
