@@ -1,3 +1,5 @@
 mod PieceLemmas
 pub mod ToldLemmas
 mod ReadingLemmas
+pub mod GivingLemmas
+mod AddressLemmas

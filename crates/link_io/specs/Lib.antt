@@ -1,6 +1,13 @@
 pub mod Source
 pub mod Sink
+pub mod Address
+pub mod Target
+pub mod Origin
+pub mod Conn
+pub mod Parcel
+pub mod Script
 pub mod Memory
 pub mod Standard
 pub mod Transfer
 pub use Rattle.gateway_words.specs.Causes
+pub use Rattle.digest_gate.specs.Digest

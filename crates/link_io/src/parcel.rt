@@ -4,8 +4,8 @@ ghost use Rattle.link_io.specs.Origin.{Origin};
 ghost use Rattle.link_io.specs.Conn.{IsSameLink, Sends, Steps, IsFresh};
 ghost use Rattle.link_io.specs.Parcel.{Packed, IsParcel, new_parcel, after_send, after_step, Stepped, StepsBehind};
 
-use crate::target::Target;
 use crate::conn::{Conn, Sent, Step};
+use crate::target::Target;
 use std::alloc::{AllocError, Global};
 use std::marker::Model;
 

@@ -5,8 +5,8 @@ ghost use Rattle.link_io.specs.Conn.{IsSameLink, Sends, Steps};
 ghost use Rattle.link_io.specs.Script.{ScriptLink, ScriptDialer, script_facts, IsFromWorld, trick_at, reply_for, not_found};
 
 use crate::address::HttpUrl;
-use crate::target::Target;
 use crate::conn::{Conn, Dial, Sent, Step};
+use crate::target::Target;
 use std::alloc::{AllocError, Global};
 use std::marker::Model;
 

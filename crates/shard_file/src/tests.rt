@@ -22,7 +22,7 @@ const ONE_FILE: &[u8] = b"\x81\xaepackages.conda\x81\xaba-1-0.conda\
     \x83\xa4name\xa1a\xa7version\xa11\xa5build\xa10";
 
 // A shard, the kind of its first fault, and the place.
-const FAULTS: [(&[u8], FaultKind, u64); 46] = [
+const FAULTS: [(&[u8], FaultKind, u64); 52] = [
     // The bytes end within the head, a key, a value, or in front of a pair.
     (b"", Short, 0),
     (b"\xdf\x00\x00", Short, 3),
@@ -43,6 +43,13 @@ const FAULTS: [(&[u8], FaultKind, u64); 46] = [
         Short,
         20,
     ),
+    // The most that can be claimed, in each inner map and list: the place is where the bytes end.
+    (b"\x81\xa8packages\xdf\xff\xff\xff\xff", Short, 15),
+    (b"\x81\xaepackages.conda\xdf\xff\xff\xff\xff", Short, 21),
+    (b"\x81\xa8packages\x81\xa1a\xdf\xff\xff\xff\xff", Short, 18),
+    (b"\x81\xa8packages\x81\xa1a\x81\xa7depends\xdd\xff\xff\xff\xff", Short, 27),
+    (b"\x81\xa8packages\x81\xa1a\x81\xaaconstrains\xdd\xff\xff\xff\xff", Short, 30),
+    (b"\x81\xa7removed\xdd\xff\xff\xff\xff", Short, 14),
     // The byte that is never used.
     (b"\xc1", Reserved, 0),
     (b"\x81\xc1\x80", Reserved, 1),

@@ -15,7 +15,7 @@ use std::alloc::Global;
 use std::test::Fail;
 
 // An index, the kind of its first fault, and the place.
-const FAULTS: [(&[u8], FaultKind, u64); 64] = [
+const FAULTS: [(&[u8], FaultKind, u64); 68] = [
     // The bytes end within the head, a key, a value, or in front of a pair.
     (b"", Short, 0),
     (b"\x81", Short, 1),
@@ -30,6 +30,11 @@ const FAULTS: [(&[u8], FaultKind, u64); 64] = [
     (b"\x82\xa7version\xcd\x00", Short, 11),
     (b"\x82\xa4info\x81\xa8base", Short, 12),
     (b"\x82\xa4info\x81\xaacreated_at\xcb\x00", Short, 20),
+    // The most that can be claimed, in each inner map: the place is where the bytes end.
+    (b"\xdf\xff\xff\xff\xff", Short, 5),
+    (b"\x81\xa6shards\xdf\xff\xff\xff\xff", Short, 13),
+    (b"\x81\xa4info\xdf\xff\xff\xff\xff", Short, 11),
+    (b"\x81\xa6shards\x81\xa1a\xc6\xff\xff\xff\xff", Wrong, 11),
     // The byte that is never used.
     (b"\xc1", Reserved, 0),
     (b"\x81\xa6shards\xc1", Reserved, 8),
