@@ -1,5 +1,5 @@
 -- Bytes of ASCII by name.
-use Rattle.std.specs.Prelude.{ℕ}
+use Rattle.std.specs.Prelude.{ℕ, List, [], ◌∷◌}
 
 -- a newline
 abbrev pub newline : ℕ
@@ -88,3 +88,7 @@ vertical_bar = 0x7c
 -- `~`
 abbrev pub tilde : ℕ
 tilde = 0x7e
+
+-- the end of a line of a request or a reply
+abbrev pub crlf : List ℕ
+crlf = carriage_return ∷ newline ∷ []

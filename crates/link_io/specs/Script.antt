@@ -7,17 +7,13 @@ use Rattle.link_io.specs.declared.conn.Step.TheVariants as stepping
 use Rattle.link_io.specs.declared.script.Trick.{Trick}
 use Rattle.link_io.specs.declared.script.Trick.TheVariants as trick
 use Rattle.link_io.specs.declared.script.ScriptLine.{ScriptLine}
-use Rattle.gateway_words.specs.Ascii.{carriage_return, newline}
+use Rattle.gateway_words.specs.Ascii.{crlf}
 use Rattle.link_io.specs.Origin.{Replies, Origin, reply_at, plain}
 use Rattle.link_io.specs.Conn.{LinkFacts, IsFront, TellsReply}
 
--- the end of a line of a head
-abbrev pub line_end : List ℕ
-line_end = carriage_return ∷ newline ∷ []
-
 -- the reply for an address that a world lacks
 unfoldable pub not_found : List ℕ
-not_found = codes "HTTP/1.1 404 Not Found" ++ line_end ++ codes "Content-Length: 0" ++ line_end ++ line_end
+not_found = codes "HTTP/1.1 404 Not Found" ++ crlf ++ codes "Content-Length: 0" ++ crlf ++ crlf
 
 -- the reply of a world for an address
 abbrev pub reply_for : List ℕ → Replies → List ℕ
