@@ -49,6 +49,10 @@ abbrev pub is_place : List ℕ → Bool
 is_place text =
     is_authority (before_slash text) && (nat_lt (length (before_slash text)) (length text) && list_all is_address_byte text)
 
+-- the text has the form of an address, whatever its length
+abbrev pub is_address_form : List ℕ → Bool
+is_address_form text = has_scheme text && is_place (behind_scheme text)
+
 -- what is wrong with a text as an address, the first of it
 abbrev pub address_fault : List ℕ → Option UrlFault
 address_fault text =
@@ -56,10 +60,6 @@ address_fault text =
     else if not (has_scheme text) then Some fault.Scheme
     else if not (is_place (behind_scheme text)) then Some fault.Url
     else None
-
--- the text is an address
-abbrev pub is_address : List ℕ → Bool
-is_address text = nat_le (length text) most_of_address && (has_scheme text && is_place (behind_scheme text))
 
 -- the address that a text is, or what is wrong with it
 abbrev pub address_in : List ℕ → Result (List ℕ) UrlFault

@@ -4,7 +4,7 @@ ghost use Rattle.std.specs.Prelude.{◌≡◌, ◌==◌, ◌≤◌, ◌+◌, ◌
 ghost use Rattle.std.specs.List.{list_any, list_all};
 ghost use Rattle.gateway_words.specs.Ascii.{commercial_at};
 ghost use Rattle.gateway_words.specs.Reading.{Gives};
-ghost use Rattle.link_io.specs.Address.{most_of_address, before_slash, behind_scheme, address_fault, address_in, is_address_byte, is_authority, is_place, has_scheme, authority_of, path_of, number_of_fault, url_fault_of};
+ghost use Rattle.link_io.specs.Address.{most_of_address, before_slash, behind_scheme, address_fault, address_in, is_address_byte, is_authority, is_place, has_scheme, is_address_form, authority_of, path_of, number_of_fault, url_fault_of};
 
 use mp_codec::Text;
 use std::alloc::{AllocError, Global};
@@ -199,6 +199,13 @@ impl Ord for HttpUrl {
     fn cmp(&self, other: &HttpUrl) -> Ordering {
         self.text.as_str().cmp(other.text.as_str())
     }
+}
+
+/// Whether a text has the form of an address, whatever its length.
+pub fn has_address_form(text: &str) -> bool
+    ensures { result ≡ is_address_form text.now }
+{
+    has_scheme(text) && is_place(behind_scheme(text))
 }
 
 // What is wrong with a text as an address.

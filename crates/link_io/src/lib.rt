@@ -24,7 +24,7 @@ mod standard;
 mod target;
 mod transfer;
 
-pub use address::{HttpUrl, MOST_OF_ADDRESS, UrlFault, UrlRefusal};
+pub use address::{HttpUrl, MOST_OF_ADDRESS, UrlFault, UrlRefusal, has_address_form};
 pub use conn::{Conn, Dial, Sent, Step};
 pub use landed::Landed;
 pub use memory::{MemSink, MemSource};
