@@ -283,3 +283,103 @@ fn is_address_byte(b: u8) -> bool
 {
     matches!(b, 0x21..=0x7e) && b != b'?' && b != b'#'
 }
+
+#[cfg(test)]
+mod tests {
+    use super::*;
+    use std::test::Fail;
+
+    // Texts, and the number of the fault of each; 0 is none.
+    const READ: [(&str, u64); 34] = [
+        ("http://h/", 0),
+        ("http://conda.example.org/conda-forge/noarch/", 0),
+        ("http://h:8080/a/b", 0),
+        ("http://[::1]:80/", 0),
+        ("http://127.0.0.1/x", 0),
+        ("http://h//", 0),
+        ("http://h/%2e%2e/%00", 0),
+        ("http://h/a@b:c", 0),
+        ("http://h/!$&'()*+,;=~[]{}|\\^`\"<>", 0),
+        ("http://H/A", 0),
+        // It begins otherwise.
+        ("", 2),
+        ("h", 2),
+        ("http:/h/", 2),
+        ("http:h/", 2),
+        ("https://h/", 2),
+        ("HTTP://h/", 2),
+        (" http://h/", 2),
+        ("ftp://h/", 2),
+        ("//h/", 2),
+        ("/a", 2),
+        // No authority, no path, a user.
+        ("http://", 1),
+        ("http:///", 1),
+        ("http:///a", 1),
+        ("http://h", 1),
+        ("http://h:80", 1),
+        ("http://@h/", 1),
+        ("http://u@h/", 1),
+        ("http://u:p@h/a", 1),
+        // Bytes that aren't allowed.
+        ("http://h/?", 1),
+        ("http://h/a?b=c", 1),
+        ("http://h/#", 1),
+        ("http://h/a b", 1),
+        ("http://h\t/", 1),
+        ("http://h/\u{e9}", 1),
+    ];
+
+    // Addresses, with their authorities and paths.
+    const PARTS: [(&str, &str, &str); 4] = [
+        ("http://h/", "h", "/"),
+        ("http://h:81/a/b", "h:81", "/a/b"),
+        ("http://[::1]:8//", "[::1]:8", "//"),
+        ("http://a.b/c@d:e/", "a.b", "/c@d:e/"),
+    ];
+
+    // The number of the fault of a text, or 0.
+    fn fault(alloc: Global, text: &str) -> Result<u64, Fail> {
+        match HttpUrl::read(alloc, text) {
+            Ok(_) => Ok(0),
+            Err(UrlRefusal::Fault(fault)) => Ok(fault.number()),
+            Err(UrlRefusal::Memory) => Err("memory ran out".into()),
+        }
+    }
+
+    #[test]
+    fn reads_addresses_and_refuses_other_texts(rt: HostRuntime) -> Result<(), Fail> {
+        for (text, number) in READ {
+            assert_eq!(rt; fault(rt.alloc(), text)?, number, "{text}");
+        }
+        Ok(())
+    }
+
+    #[test]
+    fn an_address_has_2048_bytes_at_most(rt: HostRuntime) -> Result<(), Fail> {
+        let mut text = String::from_str(rt.alloc(), "http://h/")?;
+        for _ in 9..2048 {
+            text.push('a')?;
+        }
+        assert_eq!(rt; fault(rt.alloc(), text.as_str())?, 0);
+        text.push('a')?;
+        assert_eq!(rt; fault(rt.alloc(), text.as_str())?, 3);
+        // So long a text is refused for its length, whatever else is wrong with it.
+        text.push(' ')?;
+        assert_eq!(rt; fault(rt.alloc(), text.as_str())?, 3);
+        Ok(())
+    }
+
+    #[test]
+    fn an_address_has_an_authority_and_a_path(rt: HostRuntime) -> Result<(), Fail> {
+        for (text, authority, path) in PARTS {
+            let url = HttpUrl::read(rt.alloc(), text)
+                .ok()
+                .ok_or("it is an address")?;
+            assert_eq!(rt; url.authority(), authority);
+            assert_eq!(rt; url.path(), path);
+            assert_eq!(rt; url.copy(rt.alloc())?.as_str(), text);
+        }
+        Ok(())
+    }
+}

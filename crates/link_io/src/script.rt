@@ -249,3 +249,112 @@ fn reply_in<'a>(replies: &'a [(HttpUrl, Vec<u8>)], url: &str) -> &'a [u8]
     }
     NOT_FOUND
 }
+
+#[cfg(test)]
+mod tests {
+    use super::*;
+    use crate::parcel::Parcel;
+    use crate::target::Key;
+    use digest_gate::Digest;
+    use std::test::Fail;
+
+    fn target(alloc: Global, text: &str) -> Result<Target, Fail> {
+        Ok(Target {
+            key: Key::Shard(Digest([0; 32])),
+            url: HttpUrl::read(alloc, text).ok().ok_or("it is an address")?,
+        })
+    }
+
+    // A world with one reply of seven bytes, given by three at most.
+    fn world(alloc: Global, script: &[ScriptLine]) -> Result<ScriptDial, Fail> {
+        let mut replies = Vec::new(alloc);
+        replies.push((target(alloc, "http://h/a")?.url, b"1234567".to_vec(alloc)?))?;
+        Ok(ScriptDial::new(alloc, replies, 3, script.to_vec(alloc)?))
+    }
+
+    // A parcel over the next connection of a world.
+    fn parcel(
+        alloc: Global,
+        dial: &mut ScriptDial,
+        text: &str,
+    ) -> Result<Parcel<ScriptConn>, Fail> {
+        let target = target(alloc, text)?;
+        let link = dial.dial(alloc, &target)?;
+        Ok(Parcel::new(alloc, target, link))
+    }
+
+    fn sends(parcel: &mut Parcel<ScriptConn>) -> Option<Sent> {
+        if parcel.broken() {
+            return None;
+        }
+        Some(parcel.send(b"GET"))
+    }
+
+    fn steps(parcel: &mut Parcel<ScriptConn>) -> Result<Option<Step>, Fail> {
+        if parcel.broken() {
+            return Ok(None);
+        }
+        Ok(Some(parcel.step(100)?))
+    }
+
+    #[test]
+    fn a_reply_is_given_piece_by_piece(rt: HostRuntime) -> Result<(), Fail> {
+        let mut dial = world(rt.alloc(), &[])?;
+        let mut parcel = parcel(rt.alloc(), &mut dial, "http://h/a")?;
+        assert!(rt; sends(&mut parcel) == Some(Sent::Took(3)));
+        assert_eq!(rt; parcel.sent(), 3);
+        for count in [3, 3, 1] {
+            assert!(rt; steps(&mut parcel)? == Some(Step::Got(count)));
+        }
+        assert!(rt; !parcel.ended());
+        assert!(rt; steps(&mut parcel)? == Some(Step::End));
+        assert!(rt; parcel.ended());
+        assert_eq!(rt; parcel.received(), b"1234567".as_slice());
+        Ok(())
+    }
+
+    #[test]
+    fn an_address_without_a_reply_is_not_found(rt: HostRuntime) -> Result<(), Fail> {
+        let mut dial = world(rt.alloc(), &[])?;
+        let mut parcel = parcel(rt.alloc(), &mut dial, "http://h/b")?;
+        for _ in 0..50u64 {
+            let _step = steps(&mut parcel)?;
+        }
+        assert!(rt; parcel.ended());
+        assert_eq!(rt; parcel.received(), NOT_FOUND);
+        Ok(())
+    }
+
+    #[test]
+    fn calls_wait_and_fail_by_the_script(rt: HostRuntime) -> Result<(), Fail> {
+        let script = [
+            ScriptLine {
+                dial: 1,
+                call: 0,
+                trick: Trick::Wait,
+            },
+            ScriptLine {
+                dial: 1,
+                call: 2,
+                trick: Trick::Wait,
+            },
+            ScriptLine {
+                dial: 1,
+                call: 3,
+                trick: Trick::Fail,
+            },
+        ];
+        let mut dial = world(rt.alloc(), &script)?;
+        let mut first = parcel(rt.alloc(), &mut dial, "http://h/a")?;
+        let mut second = parcel(rt.alloc(), &mut dial, "http://h/a")?;
+        assert!(rt; sends(&mut first) == Some(Sent::Took(3)));
+        assert!(rt; sends(&mut second) == Some(Sent::NotYet));
+        assert!(rt; sends(&mut second) == Some(Sent::Took(3)));
+        assert!(rt; steps(&mut second)? == Some(Step::NotYet));
+        assert!(rt; steps(&mut second)? == Some(Step::Failed));
+        assert!(rt; second.broken());
+        assert!(rt; second.received().is_empty());
+        assert!(rt; !first.broken());
+        Ok(())
+    }
+}

@@ -56,3 +56,48 @@ pub fn keys_are_told_apart()
     ensures apart { (a b : Key) → ⟦<Key as Ord>⟧.cmp a b ≡ Equal → a ≡ b }
     ensures same { (a : Key) → ⟦<Key as Ord>⟧.cmp a a ≡ Equal }
 {}
+
+#[cfg(test)]
+mod tests {
+    use super::*;
+    use std::test::Fail;
+
+    fn index(alloc: Global, text: &str) -> Result<Key, Fail> {
+        Ok(Key::Index(HttpUrl::read(alloc, text).ok().ok_or("it is an address")?))
+    }
+
+    #[test]
+    fn keys_are_in_one_order(rt: HostRuntime) -> Result<(), Fail> {
+        let first = index(rt.alloc(), "http://h/a")?;
+        let second = index(rt.alloc(), "http://h/b")?;
+        let shard = Key::Shard(Digest([7; 32]));
+        assert!(rt; first < second);
+        assert!(rt; second < shard);
+        assert!(rt; Key::Shard(Digest([0; 32])) < shard);
+        assert!(rt; first.copy(rt.alloc())? == first);
+        assert!(rt; shard.copy(rt.alloc())? == shard);
+        assert!(rt; first != second);
+        Ok(())
+    }
+
+    #[test]
+    fn targets_are_equal_where_key_and_address_are(rt: HostRuntime) -> Result<(), Fail> {
+        let url = HttpUrl::read(rt.alloc(), "http://h/a")
+            .ok()
+            .ok_or("it is an address")?;
+        let other = HttpUrl::read(rt.alloc(), "http://h/b")
+            .ok()
+            .ok_or("it is an address")?;
+        let target = Target {
+            key: Key::Shard(Digest([1; 32])),
+            url,
+        };
+        let moved = Target {
+            key: Key::Shard(Digest([1; 32])),
+            url: other,
+        };
+        assert!(rt; target.copy(rt.alloc())? == target);
+        assert!(rt; target != moved);
+        Ok(())
+    }
+}
