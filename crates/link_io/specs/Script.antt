@@ -1,8 +1,9 @@
 -- A world in memory: its connections, and the script by which they fail and wait.
-use Rattle.std.specs.Prelude.{◌≡◌, ◌≢◌, ℕ, ◌+◌, ◌^◌, ◌==◌, ◌≤◌, min, List, [], ◌∷◌, ◌++◌, map, codes, Option, Some, None, IfSome, IsSomeAnd, unwrap_or, if◌then◌else◌, refl}
+use Rattle.std.specs.Prelude.{◌≡◌, ◌≢◌, ℕ, ◌+◌, ◌-◌, ◌^◌, ◌==◌, ◌≤◌, min, List, [], ◌∷◌, ◌++◌, map, length, codes, Option, Some, None, IfSome, IsSomeAnd, unwrap_or, if◌then◌else◌, refl}
 use Rattle.link_io.specs.declared.target.Target.{Target}
 use Rattle.link_io.specs.declared.conn.Sent.{Sent}
 use Rattle.link_io.specs.declared.conn.Step.{Step}
+use Rattle.link_io.specs.declared.conn.Sent.TheVariants as sending
 use Rattle.link_io.specs.declared.conn.Step.TheVariants as stepping
 use Rattle.link_io.specs.declared.script.Trick.{Trick}
 use Rattle.link_io.specs.declared.script.Trick.TheVariants as trick
@@ -61,6 +62,31 @@ script-tells l w from = record { given = refl; whole = λ reply found. λ i. Som
 abbrev pub trick_at : ℕ → ℕ → List ScriptLine → Option Trick
 trick_at number call [] = None
 trick_at number call (x ∷ xs) = if x.dial == number then (if x.call == call then Some x.trick else trick_at number call xs) else trick_at number call xs
+
+-- what a script makes of sending n bytes
+abbrev pub sent_by : Option Trick → ℕ → Sent
+sent_by (Some trick.Wait) n = sending.NotYet
+sent_by (Some trick.Fail) n = sending.Failed
+sent_by None n = sending.Took n
+
+-- what a script makes of a step that has n bytes to give
+abbrev pub step_by : Option Trick → ℕ → Step
+step_by (Some trick.Wait) n = stepping.NotYet
+step_by (Some trick.Fail) n = stepping.Failed
+step_by None n = if n == 0 then stepping.End else stepping.Got n
+
+-- the trick for the next call of a connection
+abbrev pub next_trick : ScriptLink → Option Trick
+next_trick l = trick_at l.number l.calls l.script
+
+-- how many bytes the next step gives into so much room
+abbrev pub next_count : ScriptLink → ℕ → ℕ
+next_count l room = min (min (length l.left) room) l.piece
+
+-- one call more was made, and the script is the same
+pub record IsCalled (old new : ScriptLink) : Type 0 where
+  pub calls : new.calls ≡ min (old.calls + 1) (2 ^ 64 - 1)
+  pub script : new.script ≡ old.script
 
 -- a dialer in memory
 pub record ScriptDialer : Type 0 where

@@ -2,7 +2,7 @@
 ghost use Rattle.std.specs.Prelude.{◌≡◌, ◌≤◌, ◌<◌, ◌+◌, ◌++◌, [], ◌∷◌, Some, None, ℕ, List, Option, map, length, IfOk, IfSome, OnErr};
 ghost use Rattle.link_io.specs.Origin.{Origin};
 ghost use Rattle.link_io.specs.Conn.{IsSameLink, Sends, Steps};
-ghost use Rattle.link_io.specs.Script.{ScriptLink, ScriptDialer, script_facts, IsFromWorld, trick_at, reply_for, not_found};
+ghost use Rattle.link_io.specs.Script.{ScriptLink, ScriptDialer, script_facts, IsFromWorld, IsCalled, trick_at, next_trick, next_count, sent_by, step_by, reply_for, not_found};
 
 use crate::address::HttpUrl;
 use crate::conn::{Conn, Dial, Sent, Step};
@@ -65,9 +65,11 @@ impl Model for ScriptConn {
 impl ScriptConn {
     // What the script does to the next call.
     fn next_trick(&mut self) -> Option<Trick>
-        ensures value { result ≡ trick_at self.old.number self.old.calls self.old.script }
+        ensures value { result ≡ next_trick self.old }
+        ensures called { IsCalled self.old self.new }
         ensures kept { script_facts self.new ≡ script_facts self.old }
         ensures left { (self.new.given ≡ self.old.given) × (self.new.left ≡ self.old.left) }
+        ensures piece { self.new.piece ≡ self.old.piece }
     {
         let call = self.calls;
         self.calls = call.saturating_add(1);
@@ -96,7 +98,16 @@ impl Conn for ScriptConn {
 
     ghost from = { IsFromWorld };
 
-    fn send(&mut self, bytes: &[u8]) -> Sent {
+    fn send(&mut self, bytes: &[u8]) -> Sent
+        requires { 0 < length bytes.now }
+        ensures same { IsSameLink (script_facts self.old) (script_facts self.new) }
+        ensures sends { Sends (script_facts self.old) (script_facts self.new) bytes.now result }
+        ensures from { (o : Origin) → IsFromWorld self.old o → IsFromWorld self.new o }
+
+        // By the script.
+        ensures exact { result ≡ sent_by (next_trick self.old) (length bytes.now) }
+        ensures called { IsCalled self.old self.new }
+    {
         match self.next_trick() {
             Some(Trick::Wait) => {
                 self.waits = self.waits.saturating_add(1);
@@ -110,7 +121,17 @@ impl Conn for ScriptConn {
         }
     }
 
-    fn step(&mut self, buf: &mut [u8]) -> Step {
+    fn step(&mut self, buf: &mut [u8]) -> Step
+        requires { 0 < length buf.old }
+        ensures same { IsSameLink (script_facts self.old) (script_facts self.new) }
+        ensures steps { Steps (script_facts self.old) (script_facts self.new) buf.new result }
+        ensures from { (o : Origin) → IsFromWorld self.old o → IsFromWorld self.new o }
+
+        // By the script.
+        ensures exact { result
+            ≡ step_by (next_trick self.old) (next_count self.old (length buf.old)) }
+        ensures called { IsCalled self.old self.new }
+    {
         match self.next_trick() {
             Some(Trick::Wait) => {
                 self.waits = self.waits.saturating_add(1);
@@ -136,6 +157,9 @@ impl ScriptConn {
         ensures same { IsSameLink (script_facts self.old) (script_facts self.new) }
         ensures steps { Steps (script_facts self.old) (script_facts self.new) buf.new result }
         ensures from { (o : Origin) → IsFromWorld self.old o → IsFromWorld self.new o }
+        ensures exact { result ≡ step_by None (next_count self.old (length buf.old)) }
+        ensures calls { self.new.calls ≡ self.old.calls }
+        ensures script { self.new.script ≡ self.old.script }
     {
         let left = self.reply.len() - self.at;
         if left == 0 {
