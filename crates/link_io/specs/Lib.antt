@@ -6,6 +6,7 @@ pub mod Origin
 pub mod Conn
 pub mod Parcel
 pub mod Script
+pub mod Tcp
 pub mod Memory
 pub mod Standard
 pub mod Transfer

@@ -15,6 +15,7 @@
 mod address;
 mod conn;
 mod landed;
+mod line;
 mod memory;
 mod parcel;
 mod script;
@@ -22,6 +23,7 @@ mod sink;
 mod source;
 mod standard;
 mod target;
+mod tcp;
 mod transfer;
 
 pub use address::{HttpUrl, MOST_OF_ADDRESS, UrlFault, UrlRefusal, has_address_form};
@@ -34,6 +36,7 @@ pub use sink::Sink;
 pub use source::{Failed, Source};
 pub use standard::{StdSink, StdSource};
 pub use target::{Key, Target, keys_are_told_apart};
+pub use tcp::{TcpConn, TcpDial};
 pub use transfer::{ReadRefusal, read_to_end, write_all};
 
 #[cfg(test)]
