@@ -110,3 +110,137 @@ impl<R: Net + Clock + Drop> Conn for TcpConn<R> {
 
     ghost tells = { tcp-tells };
 }
+
+#[cfg(test)]
+mod tests {
+    use super::*;
+    use crate::address::HttpUrl;
+    use crate::parcel::Parcel;
+    use crate::target::Key;
+    use digest_gate::Digest;
+    use std::io::{Read, Write};
+    use std::net::{Ipv4Addr, SocketAddr, TcpListener, TcpStream};
+    use std::test::Fail;
+
+    const REQUEST: &[u8] = b"GET / HTTP/1.0\r\n\r\n";
+
+    fn listener(rt: &HostRuntime) -> Result<TcpListener, Fail> {
+        Ok(TcpListener::bind(rt, SocketAddr::from((Ipv4Addr::LOCALHOST, 0)))?)
+    }
+
+    // A parcel to this host at the port of a listener.
+    fn parcel(
+        rt: &HostRuntime,
+        host: &str,
+        port: u16,
+    ) -> Result<Parcel<TcpConn<HostRuntime>>, Fail> {
+        let alloc = rt.alloc();
+        let text = format!(in alloc; "http://{host}:{port}/")?;
+        let target = Target {
+            key: Key::Shard(Digest([0; 32])),
+            url: HttpUrl::read(alloc, text.as_str())
+                .ok()
+                .ok_or("it is an address")?,
+        };
+        let mut dial = TcpDial::new(alloc, *rt);
+        let link = dial.dial(alloc, &target)?;
+        Ok(Parcel::new(alloc, target, link))
+    }
+
+    // Whether the whole request was taken, by calls that wait or take all of it.
+    fn is_sent(parcel: &mut Parcel<TcpConn<HostRuntime>>) -> bool {
+        for _ in 0..100u64 {
+            if parcel.broken() {
+                return false;
+            }
+            if let Sent::Took(count) = parcel.send(REQUEST) {
+                return count == REQUEST.len();
+            }
+        }
+        false
+    }
+
+    // Takes what comes until the end or a failure.
+    fn listen(parcel: &mut Parcel<TcpConn<HostRuntime>>) -> Result<(), Fail> {
+        for _ in 0..2_000u64 {
+            if parcel.broken() || parcel.ended() {
+                return Ok(());
+            }
+            let _step = parcel.step(100)?;
+        }
+        Ok(())
+    }
+
+    // The peer of a connection, which has read the request.
+    fn accepted(listener: &TcpListener) -> Result<TcpStream, Fail> {
+        let (mut peer, _) = listener.accept()?;
+        let mut request = [0; 18];
+        peer.read_exact(&mut request)?;
+        if request.as_slice() != REQUEST {
+            return Err("another request came".into());
+        }
+        Ok(peer)
+    }
+
+    #[test]
+    fn a_reply_comes_as_it_is_written(rt: HostRuntime) -> Result<(), Fail> {
+        let listener = listener(&rt)?;
+        let port = listener.local_addr()?.port();
+        let mut parcel = parcel(&rt, "127.0.0.1", port)?;
+        assert!(rt; is_sent(&mut parcel));
+        let mut peer = accepted(&listener)?;
+        for byte in [b"a", b"b", b"c"] {
+            peer.write_all(byte)?;
+        }
+        drop(peer);
+        listen(&mut parcel)?;
+        assert!(rt; parcel.ended());
+        assert_eq!(rt; parcel.received(), b"abc".as_slice());
+        Ok(())
+    }
+
+    #[test]
+    fn a_name_with_several_addresses_tries_each(rt: HostRuntime) -> Result<(), Fail> {
+        let listener = listener(&rt)?;
+        let port = listener.local_addr()?.port();
+        let mut parcel = parcel(&rt, "localhost", port)?;
+        assert!(rt; is_sent(&mut parcel));
+        drop(accepted(&listener)?);
+        listen(&mut parcel)?;
+        assert!(rt; parcel.ended());
+        Ok(())
+    }
+
+    #[test]
+    fn a_port_where_nobody_listens_fails(rt: HostRuntime) -> Result<(), Fail> {
+        let listener = listener(&rt)?;
+        let port = listener.local_addr()?.port();
+        drop(listener);
+        let mut parcel = parcel(&rt, "127.0.0.1", port)?;
+        assert!(rt; !is_sent(&mut parcel));
+        assert!(rt; parcel.broken());
+        Ok(())
+    }
+
+    #[test]
+    fn a_name_that_does_not_resolve_fails(rt: HostRuntime) -> Result<(), Fail> {
+        let mut parcel = parcel(&rt, "no.such.name.invalid", 80)?;
+        assert!(rt; !is_sent(&mut parcel));
+        assert!(rt; parcel.broken());
+        Ok(())
+    }
+
+    #[test]
+    fn a_connection_that_is_reset_fails(rt: HostRuntime) -> Result<(), Fail> {
+        let listener = listener(&rt)?;
+        let port = listener.local_addr()?.port();
+        let mut parcel = parcel(&rt, "127.0.0.1", port)?;
+        assert!(rt; is_sent(&mut parcel));
+        // The peer ends with the request unread.
+        let (peer, _) = listener.accept()?;
+        drop(peer);
+        listen(&mut parcel)?;
+        assert!(rt; parcel.broken());
+        Ok(())
+    }
+}
