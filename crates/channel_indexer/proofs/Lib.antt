@@ -10,3 +10,4 @@ pub mod MemberTokenLemmas
 pub mod AscendLemmas
 pub mod StandingLemmas
 pub mod PlainLemmas
+pub mod NameLemmas

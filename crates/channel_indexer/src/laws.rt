@@ -8,8 +8,9 @@ ghost use Rattle.shard_file.specs.Writing.{row_cmp};
 ghost use Rattle.channel_store.specs.Store.{Files};
 ghost use Rattle.channel_indexer.specs.declared.fault.IndexFault.{IndexFault};
 ghost use Rattle.channel_indexer.specs.Groups.{Group, AreGroupsOf, InOrder};
-ghost use Rattle.channel_indexer.specs.Indexing.{SaysGroups, IsIndexable, PlaceFault, StopsAt};
-ghost use Rattle.channel_indexer.specs.Standing.{StandsOrEmpty};
+ghost use Rattle.channel_indexer.specs.Indexing.{SaysGroups, IsIndexable, IsIndexed, PlaceFault, StopsAt};
+ghost use Rattle.channel_indexer.specs.Standing.{Stands, StandsOrEmpty};
+ghost use Rattle.channel_indexer.specs.declared.index.Summary.{Summary};
 
 /// The rows of all groups together are the rows that were grouped.
 pub fn groups_have_the_rows()
@@ -56,4 +57,11 @@ pub fn a_place_has_one_fault()
 pub fn a_stop_keeps_the_place()
     ensures { (place : List ℕ) (told new : Files) → StandsOrEmpty place told
         → StopsAt place told (Some new) → StandsOrEmpty place new }
+{}
+
+/// A place that was indexed stands: its index has a reading, and each digest that it lists has its
+/// file, whose bytes have that digest.
+pub fn an_indexed_place_stands()
+    ensures { (place : List ℕ) (told new : Files) (summary : Summary)
+        → IsIndexed place told (Some new) summary → Stands place new }
 {}
