@@ -11,3 +11,4 @@ pub mod AscendLemmas
 pub mod StandingLemmas
 pub mod PlainLemmas
 pub mod NameLemmas
+pub mod LengthLemmas

@@ -92,7 +92,8 @@ fn file_of(name: &str) -> &str
 
 // Whether the file behind a place is one of a store.
 fn is_store_file(file: &str) -> bool
-    ensures { result ≡ (is_input_file file.now || is_index_file file.now || is_shard_file file.now) }
+    ensures { result
+        ≡ (is_input_file file.now || is_index_file file.now || is_shard_file file.now) }
 {
     is_input_file(file) || is_index_file(file) || is_shard_file(file)
 }
