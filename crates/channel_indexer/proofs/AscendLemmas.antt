@@ -242,14 +242,14 @@ under-other name g gs less =
     ap (λ b. cond b g.rows (rows_under name gs)) (sym (is_eq-slice_cmp name g.name) ∙ ap is_eq back)
 
 -- the rows of each group are those under its name
-abbrev AreUnder : List Group → List Group → Type 0
+abbrev pub AreUnder : List Group → List Group → Type 0
 AreUnder all groups = AllByRecursion (λ (g : Group). rows_under g.name all ≡ g.rows) groups
 
 under-more : (g : Group) (gs hs : List Group) → AllByRecursion (λ name. slice_cmp nat_cmp g.name name ≡ Less) (map (λ (g : Group). g.name) hs) → AreUnder gs hs → AreUnder (g ∷ gs) hs
 under-more g gs [] low h = tt
 under-more g gs (k ∷ hs) low h = (under-other k.name g gs low.0 ∙ h.0, under-more g gs hs low.1 h.1)
 
-each-under : (groups : List Group) → IsStrictlySortedBy (slice_cmp nat_cmp) (map (λ (g : Group). g.name) groups) → AreUnder groups groups
+pub each-under : (groups : List Group) → IsStrictlySortedBy (slice_cmp nat_cmp) (map (λ (g : Group). g.name) groups) → AreUnder groups groups
 unfolding IsStrictlySortedBy
 each-under [] up = tt
 each-under (g ∷ gs) up = (first-rows g gs, under-more g gs gs up.0 (each-under gs up.1))

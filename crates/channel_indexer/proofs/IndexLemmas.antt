@@ -15,7 +15,8 @@ use Rattle.channel_indexer.specs.Puts.{with_puts, StopsWithin}
 use Rattle.channel_indexer.specs.Prepared.{ArePrepared, AreTooLong, puts_of}
 use Rattle.channel_indexer.specs.Store.{stored_fault}
 use Rattle.channel_indexer.proofs.InputLemmas.{from-no-store}
-use Rattle.channel_indexer.specs.Shards.{input_name, index_puts}
+use Rattle.channel_store.specs.Names.{input_name}
+use Rattle.channel_indexer.specs.Shards.{index_puts}
 use Rattle.channel_indexer.specs.Indexing.{PlaceFault, no_file, too_long, of_bytes, BytesFault, says, makes, SaysGroups, IsPlanOf, IsIndexable, StopsAt, within, most_input}
 
 none-is : (limit : ℕ) (there : Option (List ℕ)) → absent ≡ found_within limit there → there ≡ None

@@ -10,3 +10,5 @@ pub mod MemberTokenLemmas
 pub mod AscendLemmas
 pub mod StandingLemmas
 pub mod PlainLemmas
+pub mod NameLemmas
+pub mod LengthLemmas

@@ -14,15 +14,17 @@ use Rattle.digest_gate.proofs.DigestLemmas.{digest_in-text_of, IsDigest-digest_o
 use Rattle.channel_store.specs.Store.{Files}
 use Rattle.channel_indexer.specs.Groups.{Group}
 use Rattle.channel_indexer.specs.Puts.{Put, files_with}
-use Rattle.channel_indexer.specs.Shards.{index_name, shard_name, shard_put, listed_of, index_put, index_puts}
+use Rattle.channel_store.specs.Names.{index_name}
+use Rattle.channel_indexer.specs.Shards.{shard_file, shard_put, listed_of, index_put, index_puts}
 use Rattle.channel_indexer.specs.Prepared.{HaveReadings}
-use Rattle.channel_indexer.specs.Indexing.{StopsAt, before, within}
+use Rattle.channel_indexer.specs.declared.index.Summary.{Summary}
+use Rattle.channel_indexer.specs.Indexing.{IsIndexed, StopsAt, before, within}
 use Rattle.channel_store.specs.Names.{subdir_of}
 use Rattle.shard_file.specs.Writing.{shard_bytes}
 use Rattle.shard_index.specs.Index.{Listed}
 use Rattle.shard_index.specs.Writing.{contents_written}
 use Rattle.std.proofs.Math.Seq.{take-length}
-use Rattle.channel_indexer.specs.Standing.{shard_file, HasShard, Stands, StandsOrEmpty}
+use Rattle.channel_indexer.specs.Standing.{HasShard, Stands, StandsOrEmpty}
 
 -- ---- names
 
@@ -74,26 +76,26 @@ put-other : (files : Files) (name bytes q : List ℕ) → (q ≡ name → ⊥) �
 put-other files name bytes q apart = put-at files name bytes q ∙ ap (λ b. cond b (Some bytes) (get files q)) (other-test q name apart)
 
 -- a shard that is put takes no shard away
-has-put : (place : List ℕ) (files : Files) (b : List ℕ) (d : Digest) → HasShard place files d → HasShard place (insert files (shard_name place b) b) d
-has-put place files b d has = go (bytes_eq (shard_file place d) (shard_name place b)) refl
+has-put : (place : List ℕ) (files : Files) (b : List ℕ) (d : Digest) → HasShard place files d → HasShard place (insert files (shard_file place (digest_of b)) b) d
+has-put place files b d has = go (bytes_eq (shard_file place d) (shard_file place (digest_of b))) refl
   where
-    go : (t : Bool) → bytes_eq (shard_file place d) (shard_name place b) ≡ t → HasShard place (insert files (shard_name place b) b) d
+    go : (t : Bool) → bytes_eq (shard_file place d) (shard_file place (digest_of b)) ≡ t → HasShard place (insert files (shard_file place (digest_of b)) b) d
     go true e =
         let is_d : IsDigest d = subst IsDigest has.digested (IsDigest-digest_of has.bytes) in
-        let same : d ≡ digest_of b = same-shard place d (digest_of b) is_d (IsDigest-digest_of b) ((bytes_eq-Decides (shard_file place d) (shard_name place b)).0 e) in
+        let same : d ≡ digest_of b = same-shard place d (digest_of b) is_d (IsDigest-digest_of b) ((bytes_eq-Decides (shard_file place d) (shard_file place (digest_of b))).0 e) in
         record {
           bytes = b;
-          stands = put-at files (shard_name place b) b (shard_file place d) ∙ ap (λ t. cond t (Some b) (get files (shard_file place d))) e;
+          stands = put-at files (shard_file place (digest_of b)) b (shard_file place d) ∙ ap (λ t. cond t (Some b) (get files (shard_file place d))) e;
           digested = sym same;
         }
     go false e = record {
       bytes = has.bytes;
-      stands = put-at files (shard_name place b) b (shard_file place d) ∙ ap (λ t. cond t (Some b) (get files (shard_file place d))) e ∙ has.stands;
+      stands = put-at files (shard_file place (digest_of b)) b (shard_file place d) ∙ ap (λ t. cond t (Some b) (get files (shard_file place d))) e ∙ has.stands;
       digested = has.digested;
     }
 
-has-itself : (place : List ℕ) (files : Files) (b : List ℕ) → HasShard place (insert files (shard_name place b) b) (digest_of b)
-has-itself place files b = record { bytes = b; stands = put-itself files (shard_name place b) b; digested = refl }
+has-itself : (place : List ℕ) (files : Files) (b : List ℕ) → HasShard place (insert files (shard_file place (digest_of b)) b) (digest_of b)
+has-itself place files b = record { bytes = b; stands = put-itself files (shard_file place (digest_of b)) b; digested = refl }
 
 has-index : (place : List ℕ) (files : Files) (b : List ℕ) (d : Digest) → HasShard place files d → HasShard place (insert files (index_name place) b) d
 has-index place files b d has = record {
@@ -186,3 +188,9 @@ stop-keeps place told new stood (within rows groups indexable stop) =
       | inl r ↦ subst (λ (ps : List Put). StandsOrEmpty place (files_with ps told)) (sym r.1) (shards-stand place groups r.0 told stood)
       | inr e ↦ subst (λ (ps : List Put). StandsOrEmpty place (files_with ps told)) (sym e) (inl (whole-stands place groups told indexable.readings))
     ])
+
+-- a place that was indexed stands
+pub indexed-stands : (place : List ℕ) (told new : Files) (summary : Summary) → IsIndexed place told (Some new) summary → Stands place new
+indexed-stands place told new summary done =
+    let files : new ≡ files_with (index_puts place done.groups) told = cc (done.files) in
+    subst (Stands place) (sym files) (whole-stands place done.groups told done.indexable.readings)

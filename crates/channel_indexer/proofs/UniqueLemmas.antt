@@ -24,7 +24,8 @@ use Rattle.channel_indexer.specs.declared.index.Summary.{Summary}
 use Rattle.channel_indexer.specs.declared.plan.Plan.{Plan}
 use Rattle.channel_indexer.specs.Store.{stored_fault}
 use Rattle.channel_indexer.specs.Groups.{Group, rows_under, InOrder, AreGroupsOf}
-use Rattle.channel_indexer.specs.Shards.{input_name, listed_of, IsFit, HasFitIndex, IsFirstLong}
+use Rattle.channel_store.specs.Names.{input_name}
+use Rattle.channel_indexer.specs.Shards.{listed_of, IsFit, HasFitIndex, IsFirstLong}
 use Rattle.channel_indexer.specs.Prepared.{AreTooLong}
 use Rattle.channel_indexer.specs.Indexing.{SaysGroups, BytesFault, says, makes, PlaceFault, no_file, too_long, of_bytes, IsIndexable, IsPlanOf, AnswersFault}
 use Rattle.channel_indexer.proofs.LawLemmas.{itself, no-group}

@@ -13,7 +13,8 @@ use Rattle.channel_indexer.specs.Input.{fault_of, rows_from}
 use Rattle.channel_indexer.specs.Store.{stored_fault}
 use Rattle.channel_indexer.specs.Groups.{Group, InOrder, AreGroupsOf}
 use Rattle.channel_indexer.specs.Puts.{with_puts, StopsWithin, stands_in, AreApart}
-use Rattle.channel_indexer.specs.Shards.{input_name, shard_put, listed_of, index_puts, IsFit, HasFitIndex}
+use Rattle.channel_store.specs.Names.{input_name}
+use Rattle.channel_indexer.specs.Shards.{shard_put, listed_of, index_puts, IsFit, HasFitIndex}
 use Rattle.channel_indexer.specs.Prepared.{HaveReadings, ArePrepared, AreTooLong}
 
 -- the most bytes of `repodata.json`

@@ -8,4 +8,5 @@ pub mod Shards
 pub mod Prepared
 pub mod Indexing
 pub mod Store
+pub mod Faults
 pub mod Standing

@@ -1,16 +1,13 @@
 -- A place whose index has all its shards (docs/FORMATS.md, "Indexing").
-use Rattle.std.specs.Prelude.{◌≡◌, ◌⊎◌, ℕ, List, ◌++◌, Some, None, codes}
+use Rattle.std.specs.Prelude.{◌≡◌, ◌⊎◌, ℕ, List, Some, None}
 use Rattle.std.specs.List.{All}
 use Rattle.std.specs.FinMap as finite
 use Rattle.digest_gate.specs.declared.digest.Digest.{Digest}
-use Rattle.digest_gate.specs.Digest.{digest_of, text_of}
+use Rattle.digest_gate.specs.Digest.{digest_of}
 use Rattle.shard_index.specs.Index.{Contents, IndexOf}
 use Rattle.channel_store.specs.Store.{Files}
-use Rattle.channel_indexer.specs.Shards.{index_name}
-
--- the file of the shard with this digest
-abbrev pub shard_file : List ℕ → Digest → List ℕ
-shard_file place digest = (place ++ codes "/shards/") ++ (text_of digest ++ codes ".msgpack")
+use Rattle.channel_store.specs.Names.{index_name}
+use Rattle.channel_indexer.specs.Shards.{shard_file}
 
 -- the shard with this digest has its file, whose bytes have the digest
 pub record HasShard (place : List ℕ) (files : Files) (digest : Digest) : Type 0 where

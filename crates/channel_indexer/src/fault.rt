@@ -2,6 +2,7 @@
 
 ghost use Rattle.std.specs.Prelude.{◌≡◌};
 ghost use Rattle.channel_indexer.specs.declared.fault.IndexFault.TheVariants.{Memory};
+ghost use Rattle.channel_indexer.specs.Faults.{number_of};
 
 use conda_name::Name;
 use mp_codec::Text;
@@ -35,6 +36,22 @@ pub enum IndexFault {
     TooLong(Large),
     /// Memory ran out.
     Memory,
+}
+
+impl IndexFault {
+    /// The number of a fault, from 1 to 5. Want of memory has none.
+    pub fn number(&self) -> Option<u64>
+        ensures { result ≡ number_of self.now }
+    {
+        match self {
+            IndexFault::NoFile => Some(1),
+            IndexFault::Json => Some(2),
+            IndexFault::Fields(_) => Some(3),
+            IndexFault::StoreFault => Some(4),
+            IndexFault::TooLong(_) => Some(5),
+            IndexFault::Memory => None,
+        }
+    }
 }
 
 impl From<AllocError> for IndexFault {

@@ -11,7 +11,7 @@ ghost use Rattle.channel_indexer.specs.Indexing.{AnswersFault, GivesInput, IsInd
 use crate::fault::{IndexFault, Large};
 use crate::plan::planned;
 use crate::putting::put_prepared;
-use crate::shards::name_at;
+use crate::shards::input_name;
 use channel_store::{Got, Store, StoreRefusal};
 use std::alloc::Global;
 
@@ -76,6 +76,7 @@ pub fn index_subdir<S: Store>(
 
 // The bytes of `repodata.json` at a place.
 fn input<S: Store>(alloc: Global, store: &mut S, place: &str) -> Result<Vec<u8>, IndexFault>
+    requires { is_place place.now ≡ true }
     ensures gives { IfSome (S.files store.old) (λ told. GivesInput place.now told result) }
     ensures same { S.files store.new ≡ S.files store.old }
 
@@ -83,7 +84,7 @@ fn input<S: Store>(alloc: Global, store: &mut S, place: &str) -> Result<Vec<u8>,
     ensures cause { IsErrOf result IndexFault.StoreFault
         → Rose (S.faults store.old) (S.faults store.new) }
 {
-    let name = name_at(alloc, place, "/repodata.json")?;
+    let name = input_name(alloc, place)?;
     match store.get(alloc, name.as_str(), MOST_INPUT) {
         Ok(Got::Bytes(bytes)) => Ok(bytes),
         Ok(Got::Absent) => Err(IndexFault::NoFile),

@@ -1,15 +1,18 @@
 //! Laws over the definitions, each the contract of a function with no body.
 
-ghost use Rattle.std.specs.Prelude.{◌≡◌, List, ℕ, Some};
+ghost use Rattle.std.specs.Prelude.{◌≡◌, ◌<◌, List, ℕ, Some, length};
 ghost use Rattle.std.specs.List.{All, flat_map};
 ghost use Rattle.std.specs.List.Sorted.{IsPermutation, IsStrictlySortedBy};
 ghost use Rattle.shard_file.specs.Rows.{Row};
-ghost use Rattle.shard_file.specs.Writing.{row_cmp};
+ghost use Rattle.shard_file.specs.Writing.{row_cmp, shard_bytes};
+ghost use Rattle.channel_store.specs.Limits.{most_served_bytes};
 ghost use Rattle.channel_store.specs.Store.{Files};
 ghost use Rattle.channel_indexer.specs.declared.fault.IndexFault.{IndexFault};
 ghost use Rattle.channel_indexer.specs.Groups.{Group, AreGroupsOf, InOrder};
-ghost use Rattle.channel_indexer.specs.Indexing.{SaysGroups, IsIndexable, PlaceFault, StopsAt};
-ghost use Rattle.channel_indexer.specs.Standing.{StandsOrEmpty};
+ghost use Rattle.channel_indexer.specs.Indexing.{SaysGroups, IsIndexable, IsIndexed, PlaceFault, StopsAt};
+ghost use Rattle.channel_indexer.specs.Shards.{IsFit};
+ghost use Rattle.channel_indexer.specs.Standing.{Stands, StandsOrEmpty};
+ghost use Rattle.channel_indexer.specs.declared.index.Summary.{Summary};
 
 /// The rows of all groups together are the rows that were grouped.
 pub fn groups_have_the_rows()
@@ -56,4 +59,19 @@ pub fn a_place_has_one_fault()
 pub fn a_stop_keeps_the_place()
     ensures { (place : List ℕ) (told new : Files) → StandsOrEmpty place told
         → StopsAt place told (Some new) → StandsOrEmpty place new }
+{}
+
+/// A place that was indexed stands: its index has a reading, and each digest that it lists has its
+/// file, whose bytes have that digest.
+pub fn an_indexed_place_stands()
+    ensures { (place : List ℕ) (told new : Files) (summary : Summary)
+        → IsIndexed place told (Some new) summary → Stands place new }
+{}
+
+/// A group of records without a fit shard has more bytes than a shard may have. So what is refused
+/// as too long is too long, and for no other cause.
+pub fn what_is_not_fit_is_too_long()
+    ensures { (bytes : List ℕ) (stood : List Row) (groups : List Group)
+        → SaysGroups bytes stood groups
+        → All (λ g. (IsFit g → ⊥) → most_served_bytes < length (shard_bytes g.rows)) groups }
 {}

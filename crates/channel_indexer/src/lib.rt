@@ -22,6 +22,7 @@ pub use index::{Summary, index_subdir};
 pub use laws::{
     a_file_says_one_indexing, a_place_has_one_fault, a_stop_keeps_the_place, groups_have_the_rows,
     rows_have_one_grouping, rows_have_one_order, rows_of_groups_ascend,
+    what_is_not_fit_is_too_long,
 };
 
 #[cfg(test)]

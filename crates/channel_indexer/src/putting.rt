@@ -12,7 +12,7 @@ use mp_codec::Text;
 use std::alloc::Global;
 use std::marker::Model;
 
-/// A file that is to be put. Contracts see its name and its bytes.
+/// A file that is to be put, whose name is a store name. Contracts see its name and its bytes.
 #[derive(Debug, Drop)]
 pub(crate) struct Put {
     pub(crate) name: Text,
@@ -20,11 +20,15 @@ pub(crate) struct Put {
 }
 
 impl Model for Put {
+    ghost use Rattle.std.specs.Prelude.{◌≡◌, true};
+    ghost use Rattle.channel_store.specs.Names.{is_store_name};
     ghost use Rattle.channel_indexer.specs.Puts as puts;
 
     ghost Value = { puts.Put };
 
     ghost view = { λ put. record { name = put.name; bytes = put.bytes.items } };
+
+    ghost invariant = { λ put. is_store_name put.name ≡ true };
 }
 
 // Puts a file, unless it stands with these bytes already, and says whether it stood.

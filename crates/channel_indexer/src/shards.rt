@@ -1,21 +1,21 @@
 //! The bytes of the shards and of the index, with the names under which they are put.
 
-ghost use Rattle.std.specs.Prelude.{◌≡◌, ◌≤◌, ◌<◌, ◌^◌, ◌++◌, true, length, map, IfOk, OnErr, codes};
+ghost use Rattle.std.specs.Prelude.{◌≡◌, ◌≤◌, ◌<◌, ◌^◌, ◌++◌, true, length, map, IfOk, OnErr};
 ghost use Rattle.std.specs.Ordering.{nat_cmp};
 ghost use Rattle.std.specs.Cmp.Lexicographic.{slice_cmp};
 ghost use Rattle.std.specs.List.Sorted.{IsStrictlySortedBy};
 ghost use Rattle.std.specs.List.{All};
 ghost use Rattle.conda_name.specs.Name.{IsName};
-ghost use Rattle.channel_store.specs.Names.{is_place};
-ghost use Rattle.digest_gate.specs.Digest.{text_of};
+ghost use Rattle.channel_store.specs.Names.{is_place, is_store_name, input_name, index_name};
+ghost use Rattle.digest_gate.specs.Digest.{IsDigest};
 ghost use Rattle.channel_indexer.specs.Groups.{AreGroupsOf};
 ghost use Rattle.channel_indexer.specs.Grouped.{group_of};
-ghost use Rattle.channel_indexer.specs.Shards.{shard_put, listed_of, index_put};
+ghost use Rattle.channel_indexer.specs.Shards.{shard_file, shard_put, listed_of, index_put};
 ghost use Rattle.channel_indexer.specs.Prepared.{MakesShard, MakesIndex, Prepares};
 
 use crate::fault::{IndexFault, Large};
 use crate::putting::Put;
-use channel_store::subdir_of;
+use channel_store::{MOST_SERVED_BYTES, subdir_of};
 use conda_name::Name;
 use digest_gate::Digest;
 use mp_codec::Text;
@@ -23,8 +23,6 @@ use shard_file::{FileRecord, can_write_shard, write_shard};
 use shard_index::{IndexRow, write_index};
 use std::alloc::{AllocError, Global};
 use std::collections::BTreeMap;
-
-const MOST_BYTES: usize = 33_554_432;
 
 // No head of MessagePack says a length of so many.
 const MOST_SAID: u64 = 0x1_0000_0000;
@@ -71,7 +69,8 @@ pub(crate) fn prepare(
 
 // The shard of one name.
 fn shard(alloc: Global, place: &str, name: &str, records: &[FileRecord]) -> Result<Made, IndexFault>
-    requires { IsName name.now }
+    requires place { is_place place.now ≡ true }
+    requires name { IsName name.now }
     ensures { MakesShard place.now (record { name = name.now; rows = records.now }) result }
 {
     let name = name_of(alloc, name)?;
@@ -80,7 +79,7 @@ fn shard(alloc: Global, place: &str, name: &str, records: &[FileRecord]) -> Resu
     }
     let mut bytes = Vec::new(alloc);
     write_shard(records, &mut bytes)?;
-    if bytes.len() > MOST_BYTES {
+    if bytes.len() > MOST_SERVED_BYTES {
         return Err(IndexFault::TooLong(Large::Shard(name)));
     }
     let digest = Digest::of(&bytes);
@@ -115,31 +114,57 @@ fn index(alloc: Global, place: &str, rows: &[IndexRow]) -> Result<Put, IndexFaul
     }
     let mut bytes = Vec::new(alloc);
     write_index(subdir_of(place), rows, &mut bytes)?;
-    if bytes.len() > MOST_BYTES {
+    if bytes.len() > MOST_SERVED_BYTES {
         return Err(IndexFault::TooLong(Large::Index));
     }
     Ok(Put {
-        name: name_at(alloc, place, "/repodata_shards.msgpack")?,
+        name: index_name(alloc, place)?,
         bytes,
     })
 }
 
-/// The name of a file at a place.
-pub(crate) fn name_at(alloc: Global, place: &str, behind: &str) -> Result<Text, AllocError>
-    ensures { IfOk result (λ name. name ≡ place.now ++ behind.now) }
+/// The name of the file at a place that is indexed.
+pub(crate) fn input_name(alloc: Global, place: &str) -> Result<Text, AllocError>
+    requires { is_place place.now ≡ true }
+    ensures name { IfOk result (λ name. name ≡ input_name place.now) }
+    ensures stored { IfOk result (λ name. is_store_name name ≡ true) }
 {
-    let mut name = String::from_str(alloc, place)?;
-    name.push_str(behind)?;
-    Text::copy(alloc, name.as_str())
+    joined(alloc, place, "/repodata.json")
+}
+
+// The name of the index of a place.
+fn index_name(alloc: Global, place: &str) -> Result<Text, AllocError>
+    requires { is_place place.now ≡ true }
+    ensures name { IfOk result (λ name. name ≡ index_name place.now) }
+    ensures stored { IfOk result (λ name. is_store_name name ≡ true) }
+{
+    joined(alloc, place, "/repodata_shards.msgpack")
 }
 
 // The name of the shard with this digest.
 fn shard_name(alloc: Global, place: &str, digest: &Digest) -> Result<Text, AllocError>
-    ensures { IfOk result (λ name. name
-        ≡ (place.now ++ codes "/shards/") ++ (text_of digest.now ++ codes ".msgpack")) }
+    requires place { is_place place.now ≡ true }
+    requires digest { IsDigest digest.now }
+    ensures name { IfOk result (λ name. name ≡ shard_file place.now digest.now) }
+    ensures stored { IfOk result (λ name. is_store_name name ≡ true) }
+{
+    shard_text(alloc, place, digest)
+}
+
+fn shard_text(alloc: Global, place: &str, digest: &Digest) -> Result<Text, AllocError>
+    ensures { IfOk result (λ name. name ≡ shard_file place.now digest.now) }
 {
     let mut behind = hex::encode(alloc, digest.0)?;
     behind.push_str(".msgpack")?;
-    let folder = name_at(alloc, place, "/shards/")?;
-    name_at(alloc, folder.as_str(), behind.as_str())
+    let folder = joined(alloc, place, "/shards/")?;
+    joined(alloc, folder.as_str(), behind.as_str())
+}
+
+// Two texts, one behind the other.
+fn joined(alloc: Global, front: &str, behind: &str) -> Result<Text, AllocError>
+    ensures { IfOk result (λ text. text ≡ front.now ++ behind.now) }
+{
+    let mut text = String::from_str(alloc, front)?;
+    text.push_str(behind)?;
+    Text::copy(alloc, text.as_str())
 }

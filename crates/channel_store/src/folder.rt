@@ -1,13 +1,18 @@
 //! The real store: the files of the current folder. It tells nothing of them.
+//!
+//! A file is put whole: it is written beside the one that it takes the place of, and renamed. A
+//! shard's bytes are on the disk before its name is; and before an index is put, the names of all
+//! shards are. So a power cut never leaves an index that lists what is not there.
 
-ghost use Rattle.std.specs.Prelude.{◌≡◌, ◌≤◌, None, IsErrOf, IfOk};
+ghost use Rattle.std.specs.Prelude.{◌≡◌, ◌≤◌, None, IsErrOf, IfOk, OnErr};
 ghost use Rattle.gateway_words.specs.Causes.{Rose};
 ghost use Rattle.channel_store.specs.Folder.{failed_calls};
 
-use crate::{Got, Store, StoreRefusal};
+use crate::temporary::{Temporary, remove_left};
+use crate::{Got, Store, StoreRefusal, is_shard_name};
 use std::alloc::Global;
-use std::fs::{self, OpenFile};
-use std::io::{self, ErrorKind, Read, Write};
+use std::fs::{self, File};
+use std::io::{self, ErrorKind, Read};
 use std::rt::Files;
 
 /// The files of the current folder, by their paths in it. It tells none of them.
@@ -40,9 +45,22 @@ impl<R: Files + Drop> FolderStore<R> {
             }
         }
     }
+
+    // What came of a call behind which a file stands; each failure is counted, also one for memory.
+    fn counted_behind(&mut self, answer: io::Result<()>) -> Result<(), StoreRefusal>
+        ensures later { failed_calls self.old ≤ failed_calls self.new }
+        ensures cause { OnErr result (Rose (failed_calls self.old) (failed_calls self.new)) }
+        ensures failed { OnErr result (result ≡ Err StoreRefusal.Failed) }
+    {
+        if answer.is_ok() {
+            return Ok(());
+        }
+        self.faults = self.faults.saturating_add(1);
+        Err(StoreRefusal::Failed)
+    }
 }
 
-impl<R: Files + Drop> Store for FolderStore<R> {
+impl<R: Files<File = File> + Drop> Store for FolderStore<R> {
     ghost files = { λ _. None };
 
     ghost faults = { λ s. s.faults };
@@ -54,7 +72,9 @@ impl<R: Files + Drop> Store for FolderStore<R> {
 
     fn put(&mut self, alloc: Global, name: &str, bytes: &[u8]) -> Result<(), StoreRefusal> {
         let put = write(&self.rt, alloc, name, bytes);
-        self.counted(put)
+        self.counted(put)?;
+        let synced = sync_behind(&self.rt, name);
+        self.counted_behind(synced)
     }
 
     fn remove(&mut self, _alloc: Global, name: &str) -> Result<(), StoreRefusal> {
@@ -66,8 +86,15 @@ impl<R: Files + Drop> Store for FolderStore<R> {
     }
 }
 
-// The bytes of a file; of one that is too long, no more than one byte behind the limit is read.
+// The bytes of a file; of one that is too long, no more than one byte behind the limit is read. What is
+// no plain file is not opened, since that can wait for another program.
 fn read<R: Files>(rt: &R, alloc: Global, name: &str, limit: u64) -> io::Result<Got> {
+    match fs::metadata(rt, name) {
+        Ok(found) if found.is_file() => {}
+        Ok(_) => return Err(io::Error::from(ErrorKind::InvalidInput)),
+        Err(error) if error.kind() == ErrorKind::NotFound => return Ok(Got::Absent),
+        Err(error) => return Err(error),
+    }
     let file = match fs::open(rt, name) {
         Ok(file) => file,
         Err(error) if error.kind() == ErrorKind::NotFound => return Ok(Got::Absent),
@@ -81,17 +108,49 @@ fn read<R: Files>(rt: &R, alloc: Global, name: &str, limit: u64) -> io::Result<G
     Ok(Got::Bytes(bytes))
 }
 
-// Writes a file beside the one that it takes the place of, so that neither is ever there in part. The
-// new one is in its place on the disk, too, when it returns.
-fn write<R: Files>(rt: &R, alloc: Global, name: &str, bytes: &[u8]) -> io::Result<()> {
+// Writes a file beside the one that it takes the place of, so that neither is ever there in part.
+// Before any file but a shard is put, the folders of its place are on the disk.
+fn write<R: Files<File = File>>(rt: &R, alloc: Global, name: &str, bytes: &[u8]) -> io::Result<()> {
     let folder = folder_of(name);
     fs::create_dir_all(rt, folder)?;
-    let temporary = format!(in alloc; "{name}.temporary")?;
-    if let Err(error) = replace(rt, temporary.as_str(), name, bytes) {
-        let _ = fs::remove_file(rt, temporary.as_str());
-        return Err(error);
+    if !is_shard_name(name) {
+        settle(rt, alloc, folder)?;
     }
-    fs::open(rt, folder)?.sync_all()
+    let mut temporary = Temporary::new(rt, alloc, folder)?;
+    temporary.write(bytes)?;
+    temporary.put(name)
+}
+
+// Removes what killed runs left at a place, and makes sure that the names of its shards, its folders
+// and those above it are on the disk.
+fn settle<R: Files<File = File>>(rt: &R, alloc: Global, place: &str) -> io::Result<()> {
+    let shards = format!(in alloc; "{place}/shards")?;
+    for folder in [shards.as_str(), place] {
+        remove_left(rt, alloc, folder)?;
+    }
+    let channel = folder_of(place);
+    for folder in [shards.as_str(), place, channel, folder_of(channel)] {
+        sync_if_there(rt, folder)?;
+    }
+    Ok(())
+}
+
+// Makes sure of the folder of a file that was put, if it is no shard: a shard's folder is made sure of
+// before the next index is put.
+fn sync_behind<R: Files<File = File>>(rt: &R, name: &str) -> io::Result<()> {
+    if is_shard_name(name) {
+        return Ok(());
+    }
+    sync_if_there(rt, folder_of(name))
+}
+
+// Makes sure that the names in a folder are on the disk, if there is such a folder.
+fn sync_if_there<R: Files<File = File>>(rt: &R, folder: &str) -> io::Result<()> {
+    match File::open(rt, folder) {
+        Ok(folder) => folder.sync_all(),
+        Err(error) if error.kind() == ErrorKind::NotFound => Ok(()),
+        Err(error) => Err(error),
+    }
 }
 
 // The folder in which a file stands.
@@ -100,17 +159,4 @@ fn folder_of(name: &str) -> &str {
         Some((folder, _)) => folder,
         None => ".",
     }
-}
-
-// Writes a temporary file, and puts it in the place of another.
-fn replace<R: Files>(rt: &R, temporary: &str, name: &str, bytes: &[u8]) -> io::Result<()> {
-    write_synced(rt, temporary, bytes)?;
-    fs::rename(rt, temporary, name)
-}
-
-// Writes a file whose bytes are on the disk when it returns.
-fn write_synced<R: Files>(rt: &R, path: &str, bytes: &[u8]) -> io::Result<()> {
-    let mut file = fs::create(rt, path)?;
-    file.write_all(bytes)?;
-    file.sync_all()
 }

@@ -8,13 +8,21 @@
 #![tactic(auto)]
 
 mod folder;
+mod laws;
+mod limits;
 mod memory;
 mod names;
 mod store;
+mod temporary;
 
 pub use folder::FolderStore;
+pub use laws::files_of_a_place_have_store_names;
+pub use limits::{MOST_SERVED_BYTES, served_files_have_their_limit};
 pub use memory::MemStore;
-pub use names::{is_channel_name, is_place, is_subdir_name, subdir_of};
+pub use names::{
+    is_channel_name, is_place, is_served_name, is_shard_name, is_store_name, is_subdir_name,
+    subdir_of,
+};
 pub use store::{Got, Store, StoreRefusal};
 
 #[cfg(test)]

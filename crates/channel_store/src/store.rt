@@ -1,7 +1,8 @@
 //! What a store of files does.
 
-ghost use Rattle.std.specs.Prelude.{◌≡◌, ℕ, ◌≤◌, Option, IfOk, OnOk, IfSome, IsErrOf};
+ghost use Rattle.std.specs.Prelude.{◌≡◌, ℕ, ◌≤◌, true, Option, IfOk, OnOk, IfSome, IsErrOf};
 ghost use Rattle.gateway_words.specs.Causes.{Rose};
+ghost use Rattle.channel_store.specs.Names.{is_store_name};
 ghost use Rattle.channel_store.specs.Store.{Files, found, found_in, with_file, without_file, IsEither};
 
 use std::alloc::{AllocError, AllocFailed, Global};
@@ -48,7 +49,7 @@ impl<T: Drop> From<AllocFailed<T>> for StoreRefusal {
     }
 }
 
-/// Files by name.
+/// Files by store names (`is_store_name`).
 pub trait Store {
     /// The files, where the store tells them.
     ghost files: { Self → Option Files };
@@ -60,6 +61,8 @@ pub trait Store {
     ///
     /// `Failed` where the store failed.
     fn get(&mut self, alloc: Global, name: &str, limit: u64) -> Result<Got, StoreRefusal>
+        requires { is_store_name name.now ≡ true }
+
         ensures ok { IfOk result (λ got. IfSome (files self.old)
             (λ told. found got ≡ found_in told name.now limit)) }
         ensures same { files self.new ≡ files self.old }
@@ -73,6 +76,8 @@ pub trait Store {
     /// `Failed` where the store failed: the old file stands, or none where there was none, or the
     /// new one stands, whole. At want of memory nothing has changed. No other file changes.
     fn put(&mut self, alloc: Global, name: &str, bytes: &[u8]) -> Result<(), StoreRefusal>
+        requires { is_store_name name.now ≡ true }
+
         ensures ok { OnOk result (files self.new
             ≡ with_file name.now bytes.now (files self.old)) }
         ensures failed { IsErrOf result StoreRefusal.Failed → IsEither (files self.old)
@@ -88,6 +93,8 @@ pub trait Store {
     /// `Failed` where the store failed: the file stands or is gone. At want of memory nothing has
     /// changed. No other file changes.
     fn remove(&mut self, alloc: Global, name: &str) -> Result<(), StoreRefusal>
+        requires { is_store_name name.now ≡ true }
+
         ensures ok { OnOk result (files self.new ≡ without_file name.now (files self.old)) }
         ensures failed { IsErrOf result StoreRefusal.Failed → IsEither (files self.old)
             (without_file name.now (files self.old)) (files self.new) }

@@ -12,8 +12,7 @@ use Rattle.channel_indexer.specs.Indexing.{IsIndexed, IsIndexable, PlaceFault, S
 use Rattle.link_io.specs.Transfer.{AppendsPart}
 use Rattle.gateway_tool.specs.declared.note.Note.{Note}
 use Rattle.gateway_tool.specs.declared.note.Note.TheVariants as note
-use Rattle.gateway_tool.specs.declared.status.TheConstants.{OK, WRITE_FAULT, OUT_OF_MEMORY, STORE_FAULT, BAD_FILE}
-use Rattle.gateway_tool.specs.Status.{IsOneOf}
+use Rattle.gateway_tool.specs.Status.{status_ok, status_write_fault, status_out_of_memory, status_store_fault, status_bad_file, IsOneOf}
 
 -- the line of a summary
 abbrev pub summary_text : Summary → List ℕ
@@ -35,27 +34,27 @@ pub record IsBadPlace (place : List ℕ) (old : Option Files) (said : Note) : Ty
 
 -- the statuses of index that have other causes than the file of the place: want of memory, a failed store
 abbrev pub apart_from_place : List ℕ
-apart_from_place = OUT_OF_MEMORY ∷ STORE_FAULT ∷ []
+apart_from_place = status_out_of_memory ∷ status_store_fault ∷ []
 
 -- the status and the note that a place leads to, where nothing comes from apart
 pub record PlaceLeadsTo (place : List ℕ) (told : Files) (status : ℕ) (said : Note) : Type 0 where
   -- a place with nothing wrong is indexed, and its line is written, unless the write fails
   pub indexable : (stood : List Row) (groups : List Group) → IsIndexable place told stood groups
-      → IsOneOf (OK ∷ WRITE_FAULT ∷ apart_from_place) status
+      → IsOneOf (status_ok ∷ status_write_fault ∷ apart_from_place) status
   -- a place in which a fault stands is a bad file, and the note has that fault
-  pub faulty : (f : IndexFault) → PlaceFault place told f → IsOneOf (BAD_FILE ∷ apart_from_place) status
-  pub says : (f : IndexFault) → PlaceFault place told f → status ≡ BAD_FILE → said ≡ note.Indexing f
+  pub faulty : (f : IndexFault) → PlaceFault place told f → IsOneOf (status_bad_file ∷ apart_from_place) status
+  pub says : (f : IndexFault) → PlaceFault place told f → status ≡ status_bad_file → said ≡ note.Indexing f
 
 -- what index answered, and what became of the store's files and of the output
 pub record IndexAnswers (place : List ℕ) (old new : Option Files) (before now : Option (List ℕ)) (status : ℕ) (said : Note) : Type 0 where
   -- the files and the line
-  pub answered : status ≡ OK → Indexes place old new (λ text. now ≡ append_known before text)
-  pub part : status ≡ WRITE_FAULT → Indexes place old new (AppendsPart before now)
-  pub silent : status ≢ OK → status ≢ WRITE_FAULT → now ≡ before
+  pub answered : status ≡ status_ok → Indexes place old new (λ text. now ≡ append_known before text)
+  pub part : status ≡ status_write_fault → Indexes place old new (AppendsPart before now)
+  pub silent : status ≢ status_ok → status ≢ status_write_fault → now ≡ before
   -- whatever the status is, some puts were made, from the first one on, and nothing else changed
   pub stop : IfSome old (λ told. StopsAt place told new)
   -- a bad file
-  pub bad_file : status ≡ BAD_FILE → IsBadPlace place old said
-  pub noted : status ≢ BAD_FILE → said ≡ note.Nothing
+  pub bad_file : status ≡ status_bad_file → IsBadPlace place old said
+  pub noted : status ≢ status_bad_file → said ≡ note.Nothing
   pub leads : IfSome old (λ told. PlaceLeadsTo place told status said)
-  pub statuses : IsOneOf (OK ∷ WRITE_FAULT ∷ OUT_OF_MEMORY ∷ STORE_FAULT ∷ BAD_FILE ∷ []) status
+  pub statuses : IsOneOf (status_ok ∷ status_write_fault ∷ status_out_of_memory ∷ status_store_fault ∷ status_bad_file ∷ []) status

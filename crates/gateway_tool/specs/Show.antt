@@ -8,9 +8,8 @@ use Rattle.match_spec.specs.Parts.{Meaning}
 use Rattle.shard_file.specs.Rows.{Row, ShardOf, ShardFault}
 use Rattle.gateway_tool.specs.declared.note.Note.{Note}
 use Rattle.gateway_tool.specs.declared.note.Note.TheVariants.{Nothing, Shard}
-use Rattle.gateway_tool.specs.declared.show.TheConstants.{MOST_SHARD_BYTES}
-use Rattle.gateway_tool.specs.declared.status.TheConstants.{OK, READ_FAULT, WRITE_FAULT, OUT_OF_MEMORY, TOO_MUCH_INPUT, BAD_FILE}
-use Rattle.gateway_tool.specs.Status.{IsOneOf, apart_from_input}
+use Rattle.channel_store.specs.Limits.{most_served_bytes}
+use Rattle.gateway_tool.specs.Status.{status_ok, status_read_fault, status_write_fault, status_out_of_memory, status_too_much_input, status_bad_file, IsOneOf, apart_from_input}
 use Rattle.gateway_tool.specs.Texts.{show_text}
 
 -- these bytes are all that a source had left, where it told them
@@ -35,26 +34,26 @@ pub record IsRefused (left : Option (List ℕ)) (note : Note) : Type 0 where
 
 -- the input has more bytes than a shard may have
 abbrev pub IsTooLong : List ℕ → Type 0
-IsTooLong input = MOST_SHARD_BYTES < length input
+IsTooLong input = most_served_bytes < length input
 
 -- the status that an input leads to, where nothing comes from apart
 pub record LeadsTo (input : List ℕ) (status : ℕ) : Type 0 where
   -- an input that is too long is refused for that
-  pub too_long : IsTooLong input → IsOneOf (TOO_MUCH_INPUT ∷ apart_from_input) status
+  pub too_long : IsTooLong input → IsOneOf (status_too_much_input ∷ apart_from_input) status
   -- a shard is shown, unless a write fails
-  pub shard : (rows : List Row) → length input ≤ MOST_SHARD_BYTES → ShardOf input rows
-      → IsOneOf (OK ∷ WRITE_FAULT ∷ apart_from_input) status
+  pub shard : (rows : List Row) → length input ≤ most_served_bytes → ShardOf input rows
+      → IsOneOf (status_ok ∷ status_write_fault ∷ apart_from_input) status
   -- an input in which a fault stands is a bad file
-  pub no_shard : (f : FormatFault) → length input ≤ MOST_SHARD_BYTES → ShardFault input f
-      → IsOneOf (BAD_FILE ∷ apart_from_input) status
+  pub no_shard : (f : FormatFault) → length input ≤ most_served_bytes → ShardFault input f
+      → IsOneOf (status_bad_file ∷ apart_from_input) status
 
 -- what show answered by this spec of what its source had left, and what became of the output
 pub record ShowAnswers (spec : Meaning) (left before now : Option (List ℕ)) (status : ℕ) (said : Note) : Type 0 where
-  pub answered : status ≡ OK → Shows left (λ text. now ≡ append_known before text) spec
-  pub part : status ≡ WRITE_FAULT → Shows left (AppendsPart before now) spec
-  pub silent : status ≢ OK → status ≢ WRITE_FAULT → now ≡ before
-  pub bad_file : status ≡ BAD_FILE → IsRefused left said
-  pub noted : status ≢ BAD_FILE → said ≡ Nothing
-  pub too_much : status ≡ TOO_MUCH_INPUT → IfSome left IsTooLong
+  pub answered : status ≡ status_ok → Shows left (λ text. now ≡ append_known before text) spec
+  pub part : status ≡ status_write_fault → Shows left (AppendsPart before now) spec
+  pub silent : status ≢ status_ok → status ≢ status_write_fault → now ≡ before
+  pub bad_file : status ≡ status_bad_file → IsRefused left said
+  pub noted : status ≢ status_bad_file → said ≡ Nothing
+  pub too_much : status ≡ status_too_much_input → IfSome left IsTooLong
   pub leads : IfSome left (λ bytes. LeadsTo bytes status)
-  pub statuses : IsOneOf (OK ∷ READ_FAULT ∷ WRITE_FAULT ∷ OUT_OF_MEMORY ∷ TOO_MUCH_INPUT ∷ BAD_FILE ∷ []) status
+  pub statuses : IsOneOf (status_ok ∷ status_read_fault ∷ status_write_fault ∷ status_out_of_memory ∷ status_too_much_input ∷ status_bad_file ∷ []) status

@@ -1,5 +1,5 @@
 -- The words of a command line, and what they ask for.
-use Rattle.std.specs.Prelude.{ℕ, Bool, false, ◌==◌, List, [], ◌∷◌, Option, Some, None, ◌&&◌, if◌then◌else◌, codes}
+use Rattle.std.specs.Prelude.{ℕ, Bool, false, ◌==◌, List, [], ◌∷◌, Option, Some, None, if◌then◌else◌, codes}
 use Rattle.std.specs.Result.{result_ok}
 use Rattle.std.specs.Str.{bytes_eq}
 use Rattle.gateway_words.specs.Ascii.{dash}
@@ -21,7 +21,11 @@ abbrev pub shown_spec : List (List ℕ) → Option Meaning
 shown_spec (command ∷ word ∷ []) = if bytes_eq command (codes "show") then spec_word word else None
 shown_spec words = None
 
+-- the place that a word is, if it is one and no option
+abbrev pub place_word : List ℕ → Option (List ℕ)
+place_word word = if is_option word then None else (if is_place word then Some word else None)
+
 -- the place that the words ask to be indexed, where they are those of index: its own name and a place
 abbrev pub indexed_place : List (List ℕ) → Option (List ℕ)
-indexed_place (command ∷ place ∷ []) = if bytes_eq command (codes "index") && is_place place then Some place else None
+indexed_place (command ∷ word ∷ []) = if bytes_eq command (codes "index") then place_word word else None
 indexed_place words = None

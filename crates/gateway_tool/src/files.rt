@@ -1,13 +1,13 @@
 //! The commands over an input and a store of files: `show` and `index`.
 ghost use Rattle.std.specs.Prelude.{◌≡◌, ◌≢◌, ◌+◌, ◌∷◌, [], None, IfSome};
+ghost use Rattle.std.specs.Io.KnownBytes.{IsAtEnd};
 ghost use Rattle.link_io.specs.Transfer.{LosesAtMost};
+ghost use Rattle.channel_store.specs.Limits.{most_served_bytes};
 ghost use Rattle.gateway_tool.specs.Words.{shown_spec, indexed_place};
-ghost use Rattle.gateway_tool.specs.Status.{IsOneOf, RefusesWords, HasStatusCause};
+ghost use Rattle.gateway_tool.specs.Status.{status_ok, status_usage, status_read_fault, status_write_fault, status_out_of_memory, status_too_much_input, status_store_fault, status_bad_file, IsOneOf, RefusesWords, HasStatusCause};
 ghost use Rattle.gateway_tool.specs.Show.{ShowAnswers};
 ghost use Rattle.gateway_tool.specs.Index.{IndexAnswers};
 ghost use Rattle.gateway_tool.specs.Files.{IsNoCommand};
-ghost use Rattle.gateway_tool.specs.declared.show.TheConstants.{MOST_SHARD_BYTES};
-ghost use Rattle.gateway_tool.specs.declared.status.TheConstants.{OK, USAGE, READ_FAULT, WRITE_FAULT, OUT_OF_MEMORY, TOO_MUCH_INPUT, STORE_FAULT, BAD_FILE};
 
 use crate::Note;
 use crate::index::index;
@@ -35,7 +35,7 @@ pub fn run_files<I: Source, O: Sink, S: Store>(
     store: &mut S,
 ) -> (u8, Note)
     // The words. Where they are wrong, and memory lasts, the status is 2.
-    ensures usage { result.0 ≡ USAGE → IsNoCommand words.now }
+    ensures usage { result.0 ≡ status_usage → IsNoCommand words.now }
     ensures wrong_words { shown_spec words.now ≡ None → indexed_place words.now ≡ None
         → RefusesWords result.0 input.old input.new out.old out.new }
 
@@ -49,17 +49,21 @@ pub fn run_files<I: Source, O: Sink, S: Store>(
     // `show` leaves the store, and `index` the input.
     ensures store_kept { indexed_place words.now ≡ None → store.new ≡ store.old }
     ensures unread { shown_spec words.now ≡ None → input.new ≡ input.old }
-    ensures noted { result.0 ≢ BAD_FILE → result.1 ≡ Note.Nothing }
+    ensures noted { result.0 ≢ status_bad_file → result.1 ≡ Note.Nothing }
+    // Where `show` ends with status 0, the input was read to its end.
+    ensures whole { indexed_place words.now ≡ None → result.0 ≡ status_ok
+        → IsAtEnd (I.left input.new) }
 
-    ensures read_fault { HasStatusCause READ_FAULT
+    ensures read_fault { HasStatusCause status_read_fault
         (I.faults input.old) (I.faults input.new) result.0 }
-    ensures write_fault { HasStatusCause WRITE_FAULT
+    ensures write_fault { HasStatusCause status_write_fault
         (O.faults out.old) (O.faults out.new) result.0 }
-    ensures store_fault { HasStatusCause STORE_FAULT
+    ensures store_fault { HasStatusCause status_store_fault
         (S.faults store.old) (S.faults store.new) result.0 }
-    ensures stops { LosesAtMost (MOST_SHARD_BYTES + 1) (I.left input.old) (I.left input.new) }
-    ensures statuses { IsOneOf (OK ∷ USAGE ∷ READ_FAULT ∷ WRITE_FAULT ∷ OUT_OF_MEMORY
-        ∷ TOO_MUCH_INPUT ∷ STORE_FAULT ∷ BAD_FILE ∷ []) result.0 }
+    ensures stops { LosesAtMost (most_served_bytes + 1) (I.left input.old) (I.left input.new) }
+    ensures statuses { IsOneOf (status_ok ∷ status_usage ∷ status_read_fault ∷ status_write_fault
+        ∷ status_out_of_memory ∷ status_too_much_input ∷ status_store_fault ∷ status_bad_file
+        ∷ []) result.0 }
 {
     match indexed_place(words) {
         Some(place) => index(alloc, place, out, store),

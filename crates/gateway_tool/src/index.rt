@@ -2,7 +2,7 @@
 ghost use Rattle.std.specs.Prelude.{◌≡◌, ◌++◌, true, IfOk, OnOk, List, ℕ, decimal};
 ghost use Rattle.channel_store.specs.Names.{is_place};
 ghost use Rattle.gateway_tool.specs.Index.{summary_text, IndexAnswers};
-ghost use Rattle.gateway_tool.specs.Status.{HasStatusCause};
+ghost use Rattle.gateway_tool.specs.Status.{status_write_fault, status_store_fault, HasStatusCause};
 
 use crate::Note;
 use crate::status::{BAD_FILE, OK, OUT_OF_MEMORY, STORE_FAULT, WRITE_FAULT};
@@ -22,9 +22,9 @@ pub(crate) fn index<O: Sink, S: Store>(
     requires { is_place place.now ≡ true }
     ensures answers { IndexAnswers place.now (S.files store.old) (S.files store.new)
         (O.written out.old) (O.written out.new) result.0 result.1 }
-    ensures store_fault { HasStatusCause STORE_FAULT
+    ensures store_fault { HasStatusCause status_store_fault
         (S.faults store.old) (S.faults store.new) result.0 }
-    ensures write_fault { HasStatusCause WRITE_FAULT
+    ensures write_fault { HasStatusCause status_write_fault
         (O.faults out.old) (O.faults out.new) result.0 }
 {
     let summary = match index_subdir(alloc, store, place) {

@@ -17,7 +17,7 @@ mod words;
 
 pub use files::run_files;
 pub use note::Note;
-pub use show::{MOST_SHARD_BYTES, run_show};
+pub use show::run_show;
 pub use status::{
     BAD_FILE, OK, OUT_OF_MEMORY, READ_FAULT, STORE_FAULT, TOO_MUCH_INPUT, USAGE, WRITE_FAULT,
     status_line,

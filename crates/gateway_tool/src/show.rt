@@ -1,22 +1,22 @@
 //! The command `show`: the records of one shard that a spec matches.
 ghost use Rattle.std.specs.Prelude.{◌≡◌, ◌≢◌, ◌+◌, ◌∷◌, [], None, IfSome};
+ghost use Rattle.std.specs.Io.KnownBytes.{IsAtEnd};
 ghost use Rattle.link_io.specs.Transfer.{LosesAtMost};
+ghost use Rattle.channel_store.specs.Limits.{most_served_bytes};
 ghost use Rattle.gateway_tool.specs.Words.{shown_spec};
-ghost use Rattle.gateway_tool.specs.Status.{IsOneOf, RefusesWords, HasStatusCause};
+ghost use Rattle.gateway_tool.specs.Status.{status_ok, status_usage, status_read_fault, status_write_fault, status_out_of_memory, status_too_much_input, status_bad_file, IsOneOf, RefusesWords, HasStatusCause};
 ghost use Rattle.gateway_tool.specs.Show.{ShowAnswers};
 
 use crate::Note;
 use crate::status::{BAD_FILE, OK, OUT_OF_MEMORY, READ_FAULT, TOO_MUCH_INPUT, USAGE, WRITE_FAULT};
 use crate::texts::show_text;
 use crate::words::{WordsRefusal, shown_spec};
+use channel_store::MOST_SERVED_BYTES;
 use link_io::{ReadRefusal, Sink, Source, read_to_end, write_all};
 use match_spec::Spec;
 use mp_codec::Text;
 use shard_file::{Shard, ShardRefusal};
 use std::alloc::Global;
-
-/// The most bytes of a shard that is read.
-pub const MOST_SHARD_BYTES: usize = 33_554_432;
 
 /// Prints the records that a spec matches from the shard that the input is, by the words `show` and
 /// a spec, whose channel and subdir are `-`. The answer is the status, and the fault of an input that is no shard.
@@ -33,22 +33,24 @@ pub fn run_show<I: Source, O: Sink>(
     out: &mut O,
 ) -> (u8, Note)
     // The words. Where they are wrong, and memory lasts, the status is 2.
-    ensures usage { result.0 ≡ USAGE → shown_spec words.now ≡ None }
+    ensures usage { result.0 ≡ status_usage → shown_spec words.now ≡ None }
     ensures wrong_words { shown_spec words.now ≡ None
         → RefusesWords result.0 input.old input.new out.old out.new }
 
     // What was written by the spec of the words, and what a told input leads to.
     ensures answers { IfSome (shown_spec words.now) (λ spec. ShowAnswers spec (I.left input.old)
         (O.written out.old) (O.written out.new) result.0 result.1) }
-    ensures noted { result.0 ≢ BAD_FILE → result.1 ≡ Note.Nothing }
+    ensures noted { result.0 ≢ status_bad_file → result.1 ≡ Note.Nothing }
+    // With status 0 the input was read to its end.
+    ensures whole { result.0 ≡ status_ok → IsAtEnd (I.left input.new) }
 
-    ensures read_fault { HasStatusCause READ_FAULT
+    ensures read_fault { HasStatusCause status_read_fault
         (I.faults input.old) (I.faults input.new) result.0 }
-    ensures write_fault { HasStatusCause WRITE_FAULT
+    ensures write_fault { HasStatusCause status_write_fault
         (O.faults out.old) (O.faults out.new) result.0 }
-    ensures stops { LosesAtMost (MOST_SHARD_BYTES + 1) (I.left input.old) (I.left input.new) }
-    ensures statuses { IsOneOf (OK ∷ USAGE ∷ READ_FAULT ∷ WRITE_FAULT ∷ OUT_OF_MEMORY
-        ∷ TOO_MUCH_INPUT ∷ BAD_FILE ∷ []) result.0 }
+    ensures stops { LosesAtMost (most_served_bytes + 1) (I.left input.old) (I.left input.new) }
+    ensures statuses { IsOneOf (status_ok ∷ status_usage ∷ status_read_fault ∷ status_write_fault
+        ∷ status_out_of_memory ∷ status_too_much_input ∷ status_bad_file ∷ []) result.0 }
 {
     match shown_spec(alloc, words) {
         Ok(spec) => show(alloc, &spec, input, out),
@@ -61,13 +63,14 @@ pub fn run_show<I: Source, O: Sink>(
 fn show<I: Source, O: Sink>(alloc: Global, spec: &Spec, input: &mut I, out: &mut O) -> (u8, Note)
     ensures answers { ShowAnswers spec.now (I.left input.old)
         (O.written out.old) (O.written out.new) result.0 result.1 }
-    ensures read_fault { HasStatusCause READ_FAULT
+    ensures whole { result.0 ≡ status_ok → IsAtEnd (I.left input.new) }
+    ensures read_fault { HasStatusCause status_read_fault
         (I.faults input.old) (I.faults input.new) result.0 }
-    ensures write_fault { HasStatusCause WRITE_FAULT
+    ensures write_fault { HasStatusCause status_write_fault
         (O.faults out.old) (O.faults out.new) result.0 }
-    ensures stops { LosesAtMost (MOST_SHARD_BYTES + 1) (I.left input.old) (I.left input.new) }
+    ensures stops { LosesAtMost (most_served_bytes + 1) (I.left input.old) (I.left input.new) }
 {
-    let bytes = match read_to_end(alloc, input, MOST_SHARD_BYTES) {
+    let bytes = match read_to_end(alloc, input, MOST_SERVED_BYTES) {
         Ok(bytes) => bytes,
         Err(ReadRefusal::Failed) => return (READ_FAULT, Note::Nothing),
         Err(ReadRefusal::TooMuch) => return (TOO_MUCH_INPUT, Note::Nothing),

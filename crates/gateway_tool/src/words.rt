@@ -2,7 +2,7 @@
 ghost use Rattle.std.specs.Prelude.{◌≡◌, true, IfOk, IfSome, IsErrOf};
 ghost use Rattle.channel_store.specs.Names.{is_place};
 ghost use Rattle.std.specs.Option.{option_copied};
-ghost use Rattle.gateway_tool.specs.Words.{is_option, spec_word, shown_spec, indexed_place};
+ghost use Rattle.gateway_tool.specs.Words.{is_option, spec_word, place_word, shown_spec, indexed_place};
 
 use channel_store::is_place;
 use match_spec::{Spec, SpecRefusal};
@@ -36,11 +36,23 @@ pub(crate) fn indexed_place(words: &[Text]) -> Option<&str>
     ensures no_show { IfSome result (λ place. shown_spec words.now ≡ None) }
 {
     match words {
-        [command, place] if command.as_str() == "index" && is_place(place.as_str()) => {
-            Some(place.as_str())
-        }
+        [command, word] if command.as_str() == "index" => place_word(word.as_str()),
         _ => None,
     }
+}
+
+// The place that a word is.
+fn place_word(word: &str) -> Option<&str>
+    ensures same { option_copied result ≡ place_word word.now }
+    ensures place { IfSome result (λ place. is_place place.now ≡ true) }
+{
+    if is_option(word) {
+        return None;
+    }
+    if is_place(word) {
+        return Some(word);
+    }
+    None
 }
 
 // The spec that a word is.

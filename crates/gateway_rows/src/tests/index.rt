@@ -47,7 +47,7 @@ const RUNS: [(Option<&str>, u8, &str, &str); 7] = [
 ];
 
 // Words that are not `index` and a place.
-const NOT_INDEX: [&[&str]; 8] = [
+const NOT_INDEX: [&[&str]; 10] = [
     &["index"],
     &["index", "c"],
     &["index", "c/noarch", "c/noarch"],
@@ -56,6 +56,8 @@ const NOT_INDEX: [&[&str]; 8] = [
     &["index", "c/no.arch"],
     &["index", "/noarch"],
     &["Index", "c/noarch"],
+    &["index", "-c/noarch"],
+    &["index", "--/noarch"],
 ];
 
 fn store_with(
@@ -141,6 +143,26 @@ fn a_store_that_stops_leaves_no_index_and_nothing_written(rt: HostRuntime) -> Re
             stop == 6,
             "a stop at call {stop}"
         );
+    }
+    Ok(())
+}
+
+// The first run makes the calls 0 to 5. The second one gets the input and each of two shards, and puts
+// the index: calls 6 to 9. One that put a shard again would come to call 10, which fails.
+#[test]
+fn a_kept_shard_is_not_put(rt: HostRuntime) -> Result<(), Fail> {
+    let alloc = rt.alloc();
+    let mut store = store_with(alloc, Some(THREE_FILES), Some(10))?;
+    for line in [
+        "names 2 files 3 written 2 kept 0\n",
+        "names 2 files 3 written 0 kept 2\n",
+    ] {
+        let words = words_of(alloc, &["index", PLACE])?;
+        let mut input = source(alloc, Vec::new(alloc), 1, &[0])?;
+        let mut out = sink(alloc, ROOM, usize::MAX, &[])?;
+        let answer = run_files(alloc, words.as_slice(), &mut input, &mut out, &mut store);
+        assert_eq!(rt; answer.0, OK, "{line}");
+        assert_eq!(rt; out.written(), line.as_bytes(), "{line}");
     }
     Ok(())
 }

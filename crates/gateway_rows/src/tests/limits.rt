@@ -3,7 +3,7 @@ ghost use Rattle.std.specs.Prelude.{None};
 
 use crate::tests::{ROOM, seen};
 use crate::{bytes_of, show, sink, words_of};
-use gateway_tool::{MOST_SHARD_BYTES, OK, TOO_MUCH_INPUT, run_show};
+use gateway_tool::{OK, TOO_MUCH_INPUT, run_show};
 use link_io::{Failed, Source};
 use std::test::Fail;
 
@@ -66,7 +66,6 @@ fn a_source_that_never_ends_is_not_read_past_the_limit(rt: HostRuntime) -> Resul
     let mut out = sink(alloc, ROOM, usize::MAX, &[])?;
     let answer = run_show(alloc, words.as_slice(), &mut input, &mut out);
     assert_eq!(rt; seen(answer), (TOO_MUCH_INPUT, None));
-    assert_eq!(rt; MOST_SHARD_BYTES, 33_554_432);
     assert_eq!(rt; input.given, 33_554_433);
     Ok(())
 }

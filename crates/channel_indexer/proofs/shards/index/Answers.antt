@@ -11,9 +11,9 @@ returns c =
     c.in_ok-write_index.ensures.ok
     ∙ ap (λ (l : List ℕ). l ++ index_bytes c.subdir_of.result.now rows) c.new-bytes.ensures.items
     ∙ ap (λ (s : List ℕ). index_bytes s rows) c.subdir_of.ensures in
-    let short : length (index_bytes (subdir_of c.args.place.now) rows) ≤ 33554432 = omega (arith, ap (length {A = ℕ}) same, c.if-len-gt-MOST_BYTES.false, c.len.ensures, c.write_index.new.out.ok) in
+    let short : length (index_bytes (subdir_of c.args.place.now) rows) ≤ 33554432 = omega (arith, ap (length {A = ℕ}) same, c.if-len-gt-MOST_SERVED_BYTES.false, c.len.ensures, c.write_index.new.out.ok) in
     record {
       fit = record { few = omega (arith, c.if-rows-ge-MOST_SAID.false); short = short };
       reading = subst (λ (s : List ℕ). IndexOf (index_bytes s rows) (contents_written s rows)) c.subdir_of.ensures c.in_ok-write_index.ensures.read_again;
-      put = λ i. record { name = c.in_ok-name_at.ensures i; bytes = same i };
+      put = λ i. record { name = c.in_ok-index_name.ensures.name i; bytes = same i };
     }

@@ -19,8 +19,8 @@ use Rattle.shard_file.specs.Writing.{shard_bytes}
 use Rattle.channel_indexer.proofs.GroupLemmas.{Entries, all-on}
 use Rattle.channel_indexer.proofs.shards.prepare.Goals as goal
 
-pub shard-requires : goal.shard-requires
-shard-requires c =
+pub shard-requires-clause-name : goal.shard-requires-clause-name
+shard-requires-clause-name c =
     let next = rest_more (λ x. x) c.loop-name.name-iterator c.next.new.self c.next.result (c.in-Some.name, c.in-Some.records) c.in-Some.is c.next.ensures.steps in
     subst IsName (sym c.as_str.ensures.value)
     (in-middle IsName (λ (g : Group). g.name) group_of c.args.groups.entries c.loop-name.yielded c.loop-name.name-iterator c.next.new.self (c.in-Some.name, c.in-Some.records) c.loop-name.invariant.all next c.requires.named)
