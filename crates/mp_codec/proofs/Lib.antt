@@ -20,5 +20,6 @@ pub mod WrittenLemmas
 pub mod AppendLemmas
 pub mod ShortestLemmas
 pub mod SpanLemmas
+pub mod PlacedLemmas
 pub mod StrLemmas
 pub mod AsciiLemmas
