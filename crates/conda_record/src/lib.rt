@@ -27,5 +27,5 @@ pub use from_json::JsonRefusal;
 pub use laws::a_written_record_is_read;
 pub use record::PackageRecord;
 pub use refusal::RecordRefusal;
-pub use spans::RecordSpans;
+pub use spans::{Field, RecordSpans};
 pub use view::RecordView;

@@ -1,9 +1,9 @@
 -- The text of a str stands in the bytes that its value lies in, just before the position behind the value.
-use Rattle.std.proofs.Common.{◌≡◌, sym, ◌∙◌, ap, subst, ℕ, suc, ◌+◌, ◌-◌, ◌≤◌, Bool, true, ◌&&◌, List, [], ◌++◌, length, take, drop, arith, length-append, append_assoc, append-nil}
+use Rattle.std.proofs.Common.{◌≡◌, sym, ◌∙◌, ap, subst, ℕ, suc, ◌+◌, ◌-◌, ◌≤◌, Bool, true, ◌&&◌, List, [], ◌++◌, length, take, drop, replicate, arith, length-append, append_assoc, append-nil}
 use Rattle.std.specs.Prelude.{Result, Ok, Err, Option, Some, None, nat_le, slice_range, if◌then◌else◌}
 use Rattle.std.specs.Str.{is_utf8}
 use Rattle.std.proofs.lemmas.Bool.{le-leb}
-use Rattle.std.proofs.lemmas.List.{drop-drop, length-drop}
+use Rattle.std.proofs.lemmas.List.{drop-drop, length-drop, length-replicate}
 use Rattle.std.proofs.Math.Seq.{drop-append_seam, take-append_seam}
 use Rattle.std.specs.Borrow.{Bor}
 use Rattle.gateway_words.specs.Places.{Position, Between}
@@ -16,7 +16,7 @@ use Rattle.mp_codec.specs.Spelling.{HeadLies, Lies}
 use Rattle.mp_codec.specs.Fault.{TextFault, ValueLies}
 use Rattle.mp_codec.specs.Reading.{Steps, head_from, bytes_from}
 use Rattle.mp_codec.specs.Maps.{text_from}
-use Rattle.mp_codec.specs.Span.{IsIn, text_or_none, text_at, span_before, span_from}
+use Rattle.mp_codec.specs.Span.{IsIn, part_of, text_or_none, text_at, span_before, span_from}
 use Rattle.gateway_words.specs.Reading.{◌>>=◌}
 use Rattle.mp_codec.proofs.BindLemmas.{bind_ok}
 use Rattle.mp_codec.proofs.CursorLemmas.{head_found, take_found}
@@ -132,3 +132,35 @@ str_spans bytes text here there i l u = before_at bytes text there (str_before b
 pub span_read : (text : List ℕ) (here there : Position) → text_from here ≡ Ok (text, there) → span_from here ≡ Ok (span_before (length text) there, there)
 unfolding span_from
 span_read text here there e = bind_ok (text_from here) (λ t. Ok (span_before (length t.0) t.1, t.1)) (text, there) e
+
+-- bytes between two positions are the part of the bytes from the one place to the other
+pub part_between : (bytes s : List ℕ) (here there : Position) → IsIn bytes here → Between s here there → part_of bytes (record { start = here.at; end = there.at }) ≡ Some s
+part_between bytes s here there i b =
+    let w : StandsBefore bytes s there = between_before bytes [] s here there i b in
+    let at : there.at ≡ here.at + length s = b.at in
+    let first : nat_le here.at there.at ≡ true = le-leb here.at there.at (omega arith) in
+    let last : nat_le there.at (length bytes) ≡ true = le-leb there.at (length bytes) w.within in
+    let start : here.at ≡ there.at - length s = omega arith in
+    ap (λ (b : Bool). if b && nat_le there.at (length bytes) then Some (slice_range bytes here.at there.at) else None) first
+    ∙ ap (λ (b : Bool). if b then Some (slice_range bytes here.at there.at) else None) last
+    ∙ ap (λ (t : List ℕ). Some t) (ap (λ (k : ℕ). slice_range bytes k there.at) start ∙ w.are)
+
+-- so many bytes
+abbrev zeros : ℕ → List ℕ
+zeros n = replicate n 0
+
+zeros_len : (n : ℕ) → length (zeros n) ≡ n
+zeros_len n = length-replicate n 0
+
+-- some bytes in which a position is
+abbrev pub padded : Position → List ℕ
+padded here = zeros here.at ++ here.left
+
+pub padded_in : (here : Position) → IsIn (padded here) here
+padded_in here = record {
+  within = subst (λ (k : ℕ). k ≤ length (padded here)) (zeros_len here.at) (fits (zeros here.at) here.left);
+  left = sym (ap (λ (k : ℕ). drop k (padded here)) (sym (zeros_len here.at)) ∙ drop-append_seam (zeros here.at) here.left);
+}
+  where
+    fits : (xs ys : List ℕ) → length xs ≤ length (xs ++ ys)
+    fits xs ys = omega (arith, length-append xs ys)
