@@ -48,10 +48,6 @@ pub record Placed : Type 0 where
 abbrev pub placed_before : List ℕ → Position → Placed
 placed_before bytes there = record { bytes = bytes; span = span_before (length bytes) there }
 
--- the text that must stand here, with its span
-unfoldable pub placed_text_from : Position → Read Placed
-placed_text_from here = text_from here >>= λ t. Ok (placed_before t.0 t.1, t.1)
-
 -- the bytes that were read, if any, with their span
 abbrev pub placed_if : Option (List ℕ) → Position → Option Placed
 placed_if (Some bytes) there = Some (placed_before bytes there)

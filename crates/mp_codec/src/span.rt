@@ -1,8 +1,9 @@
 //! Where a text stands in some bytes.
 
-ghost use Rattle.std.specs.Prelude.{◌≡◌, None, Some, MatchOption};
+ghost use Rattle.std.specs.Prelude.{◌≡◌, length, None, Some, IfOk, MatchOption};
+ghost use Rattle.mp_codec.specs.Maps.{text_from};
 ghost use Rattle.mp_codec.specs.Reading.{Steps};
-ghost use Rattle.mp_codec.specs.Span.{part_of, text_at, span_before, span_from, placed_text_from, placed_seen, placed_str_from};
+ghost use Rattle.mp_codec.specs.Span.{part_of, text_at, span_before, span_from, placed_seen, placed_str_from};
 
 use crate::cursor::Cursor;
 use crate::fault::FormatFault;
@@ -60,10 +61,11 @@ impl<'a> Cursor<'a> {
 
     /// The text that must stand here, and where it begins and ends in the bytes that the cursor
     /// goes over; the cursor goes behind it. Refuses as `text` does.
-    #[tactic(auto, unfolding(crate::specs::Span::placed_text_from))]
     pub fn placed_text(&mut self) -> Result<(&'a str, Span), FormatFault>
-        ensures { Steps (λ t. record { bytes = t.0.now; span = t.1 }) self.old self.new result
-            (placed_text_from self.old) }
+        // It ends where the cursor stands now, and begins as many bytes before as it has.
+        ensures place { IfOk result (λ t. t.1 ≡ span_before (length t.0.now) self.new) }
+
+        ensures exact { Steps (λ t. t.0.now) self.old self.new result (text_from self.old) }
     {
         let text = self.text()?;
         Ok((text, self.span_before(text.len())))
