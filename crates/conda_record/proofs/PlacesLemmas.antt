@@ -4,6 +4,7 @@ use Rattle.std.specs.Prelude.{Result, Ok, Err, Option, Some, None, option_map, o
 use Rattle.std.specs.Str.{is_utf8}
 use Rattle.std.specs.Result.{result_ok}
 use Rattle.std.proofs.lemmas.Bool.{eqb-true, eq-eqb}
+use Rattle.std.proofs.lemmas.Option.{slice_get-map}
 use Rattle.hex.specs.Hex.{decode_sized, decode_pairs}
 use Rattle.hex.specs.declared.error.FromHexError.TheVariants.{OddLength, InvalidStringLength}
 use Rattle.gateway_words.specs.Places.{Position, Between}
@@ -26,7 +27,9 @@ use Rattle.conda_record.specs.Record.{Fields, record_keys, RecordFault, RecordAt
 use Rattle.conda_record.specs.Texts.{text_in, tried, each_from, listed_or_skipped, listed_from}
 use Rattle.conda_record.specs.Digests.{digest_in, digest_by, digest_from, digest_in_bytes, digest_at, span_behind, payload_span, digest_span_by, digest_span_from}
 use Rattle.conda_record.specs.Reading.{Kind, text, number, optional_text, texts, digest, Datum, Text, Number, OptionalText, Texts, Digest, kinds, required, optional_text_from, datum_by, datum_from, text_or_none, number_in, optional_text_in, texts_in, digest_in as digest_kept, fields_from, record_from}
-use Rattle.conda_record.specs.Places.{Places, fields_at}
+use Rattle.conda_record.specs.declared.spans.Field.{Field}
+use Rattle.conda_record.specs.declared.spans.Field.TheVariants as field
+use Rattle.conda_record.specs.Places.{Places, fields_at, span_of, text_of_field}
 use Rattle.conda_record.specs.Placing.{Place, TextAt, NumberIs, OptionalTextAt, TextsAt, DigestAt, span_if_text, optional_span_from, place_by, place_from, span_or_none, number_in as number_kept, optional_span_in, spans_in, digest_span_in, places_in, places_end_from, places_from}
 use Rattle.conda_record.proofs.RecordLemmas.{asked, datum, each, IsRecord, record_is, record_judged, record_found, record_first}
 
@@ -348,3 +351,15 @@ module _ (bytes : List ℕ) where
 -- a fault of the places is that of the record
 pub fault_at_places : (here : Position) (f : FormatFault) → places_from here ≡ Err f → record_from here ≡ Err f
 fault_at_places here f e = record_same (padded here) here (padded_in here) ∙ ap (turned (fields_at (padded here))) e
+
+-- the text at the span of a field
+pub field_text : (bytes : List ℕ) (p : Places) (f : Field) → option_map (text_at bytes) (span_of f p) ≡ text_of_field f (fields_at bytes p)
+unfolding fields_at
+field_text bytes p field.Name = refl
+field_text bytes p field.Version = refl
+field_text bytes p field.Build = refl
+field_text bytes p field.Subdir = refl
+field_text bytes p field.License = refl
+field_text bytes p field.Noarch = refl
+field_text bytes p (field.Depend i) = sym (slice_get-map (text_at bytes) p.depends i)
+field_text bytes p (field.Constrain i) = sym (slice_get-map (text_at bytes) p.constrains i)

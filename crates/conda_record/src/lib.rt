@@ -24,7 +24,7 @@ mod writing;
 
 pub use data::is_data;
 pub use from_json::JsonRefusal;
-pub use laws::a_written_record_is_read;
+pub use laws::{a_record_stands_at_its_places, a_written_record_is_read};
 pub use record::PackageRecord;
 pub use refusal::RecordRefusal;
 pub use spans::{Field, RecordSpans};
