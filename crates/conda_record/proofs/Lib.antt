@@ -1,8 +1,9 @@
-pub mod ReadLemmas
 pub mod TextLoop
 pub mod ValueLemmas
 pub mod RecordLemmas
 pub mod RefusalLemmas
+pub mod FoundLemmas
+pub mod PlacesLemmas
 pub mod WrittenLemmas
 pub mod CountLemmas
 pub mod CopyLemmas

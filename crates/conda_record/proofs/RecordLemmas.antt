@@ -64,7 +64,7 @@ free_each : (i : ℕ) (k : Kind) (here : Position) → 3 ≤ i → IsFree k → 
 free_each i k here le free =
     same_faults no_fault (asked i) (λ d v. datum_as k v ≡ d) here (datum_by k here) (λ f p. absurd p) (λ f p. let lt : i < 3 = p.0 in omega arith) (free_judged k free here)
 
-each : (i : ℕ) (here : Position) → i < 13 → JudgesOne (asked i) (λ d v. datum i v ≡ d) here (datum_from i here)
+pub each : (i : ℕ) (here : Position) → i < 13 → JudgesOne (asked i) (λ d v. datum i v ≡ d) here (datum_from i here)
 unfolding IsFree
 each zero here lt = text_each 0 here (omega arith)
 each (suc zero) here lt = text_each 1 here (omega arith)

@@ -22,7 +22,7 @@ use Rattle.mp_codec.proofs.JudgingLemmas.{JudgesOne, Reads, parts, lies_whole}
 use Rattle.mp_codec.proofs.LeafLemmas.{head_of, head_is, refuses_break, skipped_judged, leaf_lies, payload_breaks, HasStr, str_judged, IsText, text_judged, text_clean}
 use Rattle.mp_codec.proofs.MapLemmas.{mapped, head_begins, parts_lie, no_place}
 use Rattle.mp_codec.proofs.ReaderLemmas.{judged_reads}
-use Rattle.conda_record.specs.Texts.{text_in, text_of, texts_in, texts_if, texts_of, texts_at, tried, texts_or_skipped, texts_from, both}
+use Rattle.conda_record.specs.Texts.{text_in, text_of, texts_in, texts_if, texts_of, each_from, tried, listed_or_skipped, listed_from, texts_at, texts_from, both}
 use Rattle.conda_record.specs.Digests.{digest_in, digest_of, digest_by, digest_from}
 use Rattle.conda_record.specs.Reading.{optional_text_from}
 
@@ -132,7 +132,7 @@ more_parts v vs here there l e = go l.bytes (subst (λ (us : Values). SpellsAll 
 
 -- values that are these texts are read as them
 texts_read : (vs : Values) (ts : List (List ℕ)) (here there : Position) (l : LieAll (count vs) here there) → l.values ≡ vs → texts_in vs ≡ Some ts → texts_at (count vs) here ≡ Ok (ts, there)
-unfolding texts_at
+unfolding each_from
 texts_read none ts here there l e is =
     let same : [] ≡ ts = cc in
     let place : there ≡ here = no_place here there l in
@@ -150,7 +150,7 @@ record TextsLie (n : ℕ) (ts : List (List ℕ)) (here there : Position) : Type 
   are : texts_in lie.values ≡ Some ts
 
 texts_lie : (n : ℕ) (here : Position) (ts : List (List ℕ)) (there : Position) → texts_at n here ≡ Ok (ts, there) → TextsLie n ts here there
-unfolding texts_at
+unfolding each_from
 texts_lie zero here ts there e =
     let empty : ◌≡◌ {A = List (List ℕ)} [] ts = ok_first e in
     let place : here ≡ there = ok_second e in
@@ -208,7 +208,7 @@ array_lies : (h : Head) (n : ℕ) (here mid there : Position) → head_from here
 array_lies h n here mid there e is all = node_lies h [] here mid there (head_begins here mid h e is.payload) all
 
 pub texts_judged : (here : Position) → JudgesOne no_fault HasTexts here (texts_from here)
-unfolding texts_from
+unfolding listed_from
 texts_judged here = go (head_from here) refl
   where
     -- an array whose elements were not read as texts is no list of texts
@@ -243,10 +243,10 @@ texts_judged here = go (head_from here) refl
         }
     in_array h mid n e len is (Err f) t = skipped_judged None HasTexts here (unread h mid n e len is f t)
 
-    by_len : (h : Head) (mid : Position) → head_from here ≡ Ok (h, mid) → (o : Option ℕ) → array_len h ≡ o → JudgesOne no_fault HasTexts here (texts_or_skipped o here mid)
+    by_len : (h : Head) (mid : Position) → head_from here ≡ Ok (h, mid) → (o : Option ℕ) → array_len h ≡ o → JudgesOne no_fault HasTexts here (listed_or_skipped text_from o here mid)
     by_len h mid e (Some n) is = in_array h mid n e is (is_array h n is) (texts_at n mid) refl
     by_len h mid e None is = skipped_judged None HasTexts here (λ v there l. no_array v h (head_is v here there mid h l e) is)
 
-    go : (r : Result (Head × Position) FormatFault) → head_from here ≡ r → JudgesOne no_fault HasTexts here (r >>= λ h. texts_or_skipped (array_len h.0) here h.1)
+    go : (r : Result (Head × Position) FormatFault) → head_from here ≡ r → JudgesOne no_fault HasTexts here (r >>= λ h. listed_or_skipped text_from (array_len h.0) here h.1)
     go (Ok x) e = by_len x.0 x.1 e (array_len x.0) refl
     go (Err f) e = refuses_break no_fault here f (head_breaks 0 here f e) (λ g p. absurd p)

@@ -18,7 +18,7 @@ use Rattle.mp_codec.specs.Value.{Value}
 use Rattle.mp_codec.specs.Spelling.{Spells}
 use Rattle.mp_codec.specs.Writing.{IsShortest}
 use Rattle.mp_codec.proofs.ShortestLemmas.{IsTight, tight_uint, tight_str, tight_bin, tight_array, tight_each, tight_known_map, pointwise, names_short, shortest}
-use Rattle.conda_record.specs.Texts.{text_in, texts_at, tried, texts_or_skipped, texts_from}
+use Rattle.conda_record.specs.Texts.{text_in, each_from, tried, listed_or_skipped, listed_from, texts_at, texts_from}
 use Rattle.conda_record.specs.Digests.{digest_in, digest_by, digest_from}
 use Rattle.conda_record.specs.Record.{Fields, record_keys}
 use Rattle.conda_record.specs.Reading.{Datum, Text, Number, OptionalText, Texts, Digest, required, optional_text_from, datum_from, number_in, optional_text_in, texts_in, digest_in as digest_data, fields_from, record_from}
@@ -42,7 +42,7 @@ optional_text_back text short utf8 here there at =
     ∙ ap (λ (b : Bool). Ok (cond {A = Option (List ℕ)} b (Some text) None, there)) utf8
 
 texts_back : (texts : List (List ℕ)) → All IsShort texts → All AreText texts → ReadAs (texts_at (length texts)) (flat_map str_bytes texts) texts
-unfolding texts_at
+unfolding each_from
 texts_back [] short utf8 here there at = ap (λ (q : Position). Ok ([], q)) (nothing_between here there at)
 texts_back (text ∷ texts) short utf8 here there at =
     let h : Halves (str_bytes text) (flat_map str_bytes texts) here there = halves (str_bytes text) (flat_map str_bytes texts) here there at in
@@ -50,10 +50,10 @@ texts_back (text ∷ texts) short utf8 here there at =
     ∙ bind_ok (texts_at (length texts) h.mid) (λ ts. Ok (text ∷ ts.0, ts.1)) (texts, there) (texts_back texts (all_others IsShort text texts short) (all_others AreText text texts utf8) h.mid there h.second)
 
 list_back : (texts : List (List ℕ)) → AreShort texts → All AreText texts → ReadAs texts_from (texts_bytes texts) (Some texts)
-unfolding texts_from
+unfolding listed_from
 list_back texts short utf8 here there at =
     let h : Halves (array_head (length texts)) (flat_map str_bytes texts) here there = halves (array_head (length texts)) (flat_map str_bytes texts) here there at in
-    bind_ok (head_from here) (λ h. texts_or_skipped (array_len h.0) here h.1) (head.Array (length texts), h.mid)
+    bind_ok (head_from here) (λ h. listed_or_skipped text_from (array_len h.0) here h.1) (head.Array (length texts), h.mid)
     (head_read (head.Array (length texts)) (array_head (length texts)) (array_head_stands (length texts) short.many) here h.mid h.first)
     ∙ ap (λ (r : Read (List (List ℕ))). tried r here) (texts_back texts short.each utf8 h.mid there h.second)
 

@@ -1,9 +1,11 @@
 pub mod Texts
 pub mod Digests
 pub mod Record
-pub mod Spans
+pub mod Places
 pub mod View
 pub mod Reading
+pub mod Placing
+pub mod Found
 pub mod Json
 pub mod Tree
 pub mod InTree

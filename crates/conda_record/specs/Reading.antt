@@ -1,19 +1,11 @@
 -- Reading a record from a position: its known keys in the order of `record_keys`, and how the value of each is read.
-use Rattle.std.specs.Prelude.{ℕ, List, [], ◌∷◌, map, Option, Some, None, unwrap_or, Ok, slice_index_or}
-use Rattle.std.specs.Option.{option_map}
-use Rattle.std.specs.declared.alloc.Global.{Global}
-use Rattle.std.specs.declared.vec.Vec.{Vec}
+use Rattle.std.specs.Prelude.{ℕ, List, [], ◌∷◌, Option, Some, None, unwrap_or, Ok, slice_index_or}
 use Rattle.gateway_words.specs.Places.{Position}
 use Rattle.gateway_words.specs.Reading.{◌>>=◌}
 use Rattle.mp_codec.specs.declared.fault.FormatFault.{FormatFault}
 use Rattle.mp_codec.specs.Maps.{Read, entries_from, map_from, text_from, number_from, str_from, unread, known_key_from, known_value_from, known_end_from}
-use Rattle.mp_codec.specs.declared.span.Span.{Span}
-use Rattle.mp_codec.specs.Span.{text_at}
 use Rattle.conda_record.specs.declared.refusal.RecordRefusal.{RecordRefusal}
 use Rattle.conda_record.specs.declared.refusal.RecordRefusal.TheVariants as refusal
-use Rattle.conda_record.specs.declared.reading.Key.{Key}
-use Rattle.conda_record.specs.declared.reading.Key.TheVariants as key
-use Rattle.conda_record.specs.declared.spans.RecordSpans.{RecordSpans}
 use Rattle.conda_record.specs.Texts.{text_in, texts_from}
 use Rattle.conda_record.specs.Digests.{digest_from}
 use Rattle.conda_record.specs.Record.{Fields, record_keys}
@@ -63,52 +55,9 @@ datum_by optional_text here = optional_text_from here >>= λ t. Ok (OptionalText
 datum_by texts here = texts_from here >>= λ ts. Ok (Texts ts.0, ts.1)
 datum_by (digest n) here = digest_from n here >>= λ d. Ok (Digest d.0, d.1)
 
--- the same, as what is kept of a key
-abbrev pub kept_by : Kind → Position → Read (Option Datum)
-kept_by kind here = datum_by kind here >>= λ d. Ok (Some d.0, d.1)
-
 -- the value of the known key at this place
 abbrev pub datum_from : ℕ → Position → Read Datum
 datum_from i here = datum_by (slice_index_or kinds i number) here
-
--- ---- what was read so far
-
--- the place of a key among the known ones, or their number
-abbrev pub place : Key → ℕ
-place key.Name = 0
-place key.Version = 1
-place key.Build = 2
-place key.BuildNumber = 3
-place key.Depends = 4
-place key.Constrains = 5
-place key.Subdir = 6
-place key.Md5 = 7
-place key.Sha256 = 8
-place key.Size = 9
-place key.Timestamp = 10
-place key.License = 11
-place key.Noarch = 12
-place key.Other = 13
-
--- something that was read, as what was read behind a key
-abbrev pub datum_in : {X : Type 0} → (X → Datum) → Option X → Option Datum
-datum_in datum (Some x) = Some (datum x)
-datum_in datum None = None
-
--- the texts at the spans of a list
-abbrev pub texts_seen : List ℕ → Option (Vec Span Global) → Option (List (List ℕ))
-texts_seen bytes (Some v) = Some (map (text_at bytes) v.items)
-texts_seen bytes None = None
-
--- what was read, by the places of the keys, each text as it stands in these bytes
-abbrev pub known : List ℕ → RecordSpans → List (Option Datum)
-known bytes r =
-    datum_in (λ s. Text (text_at bytes s)) r.name ∷ datum_in (λ s. Text (text_at bytes s)) r.version
-    ∷ datum_in (λ s. Text (text_at bytes s)) r.build ∷ datum_in Number r.build_number
-    ∷ datum_in (λ ts. Texts (texts_seen bytes ts)) r.depends ∷ datum_in (λ ts. Texts (texts_seen bytes ts)) r.constrains
-    ∷ datum_in (λ s. OptionalText (option_map (text_at bytes) s)) r.subdir ∷ datum_in Digest r.md5 ∷ datum_in Digest r.sha256
-    ∷ datum_in Number r.size ∷ datum_in Number r.timestamp
-    ∷ datum_in (λ s. OptionalText (option_map (text_at bytes) s)) r.license ∷ datum_in (λ s. OptionalText (option_map (text_at bytes) s)) r.noarch ∷ []
 
 -- ---- the record of what was read
 

@@ -38,21 +38,29 @@ texts_of (value h payload parts) = texts_if (array_len h) parts
 
 -- ---- reading them
 
--- so many texts
-unfoldable pub texts_at : ℕ → Position → Read (List (List ℕ))
-texts_at zero here = Ok ([], here)
-texts_at (suc n) here = text_from here >>= λ t. texts_at n t.1 >>= λ ts. Ok (t.0 ∷ ts.0, ts.1)
+-- so many things, each by the same reading
+unfoldable pub each_from : {X : Type 0} → (Position → Read X) → ℕ → Position → Read (List X)
+each_from read zero here = Ok ([], here)
+each_from read (suc n) here = read here >>= λ x. each_from read n x.1 >>= λ xs. Ok (x.0 ∷ xs.0, xs.1)
 
 -- what was tried, or else the value that stands here is skipped
 abbrev pub tried : {X : Type 0} → Read X → Position → Read (Option X)
 tried (Ok x) here = Ok (Some x.0, x.1)
 tried (Err f) here = skipped None here
 
--- the texts of an array whose elements begin there, if that is what stands here
-abbrev pub texts_or_skipped : Option ℕ → Position → Position → Read (Option (List (List ℕ)))
-texts_or_skipped (Some n) here there = tried (texts_at n there) here
-texts_or_skipped None here there = skipped None here
+-- what is read of the elements of an array that begin there, if that is what stands here and each can be read
+abbrev pub listed_or_skipped : {X : Type 0} → (Position → Read X) → Option ℕ → Position → Position → Read (Option (List X))
+listed_or_skipped read (Some n) here there = tried (each_from read n there) here
+listed_or_skipped read None here there = skipped None here
+
+-- what is read of the elements of an array, or none of a value of another kind
+unfoldable pub listed_from : {X : Type 0} → (Position → Read X) → Position → Read (Option (List X))
+listed_from read here = head_from here >>= λ h. listed_or_skipped read (array_len h.0) here h.1
+
+-- so many texts
+abbrev pub texts_at : ℕ → Position → Read (List (List ℕ))
+texts_at = each_from text_from
 
 -- a list of texts, or none of a value of another kind
-unfoldable pub texts_from : Position → Read (Option (List (List ℕ)))
-texts_from here = head_from here >>= λ h. texts_or_skipped (array_len h.0) here h.1
+abbrev pub texts_from : Position → Read (Option (List (List ℕ)))
+texts_from = listed_from text_from

@@ -3,7 +3,7 @@ use Rattle.conda_record.specs.declared.view.RecordView.{RecordView}
 use Rattle.conda_record.specs.declared.view.Shown.{Shown}
 use Rattle.conda_record.specs.declared.view.Shown.TheVariants as shown
 use Rattle.conda_record.specs.Record.{Fields}
-use Rattle.conda_record.specs.Spans.{fields_at}
+use Rattle.conda_record.specs.Places.{fields_at}
 
 -- the fields of what is looked at
 abbrev pub shown_fields : Shown → Fields

@@ -1,14 +1,12 @@
 //! Records with texts of their own, copied from where they stand.
 
-ghost use Rattle.std.specs.Prelude.{◌≡◌, List, ℕ, map, IfOk, IfErr, IfSome, OnErr, MatchResult};
+ghost use Rattle.std.specs.Prelude.{◌≡◌, IfOk, IfErr, IfSome, OnErr, MatchResult};
 ghost use Rattle.std.specs.Option.{option_copied};
 ghost use Rattle.gateway_words.specs.Places.{Position};
 ghost use Rattle.gateway_words.specs.Reading.{Gives};
 ghost use Rattle.mp_codec.specs.Fault.{IsFirstFault, WithBreaks};
 ghost use Rattle.conda_record.specs.Record.{Fields, RecordFault, RecordAt};
 ghost use Rattle.conda_record.specs.Reading.{fault_of, record_from};
-ghost use Rattle.mp_codec.specs.Span.{IsIn};
-ghost use Rattle.conda_record.specs.Spans.{fields_at};
 ghost use Rattle.conda_record.specs.View.{seen};
 
 use crate::record::PackageRecord;
@@ -62,26 +60,11 @@ impl PackageRecord {
         ensures exact { Gives (λ r. (r, cur.new)) fault_of result (record_from cur.old) }
     {
         let mut ahead = cur.copy();
-        let bytes = ahead.bytes();
-        let spans = spans_in(alloc, bytes, &mut ahead)?;
-        let record = PackageRecord::copy(alloc, spans.view(bytes))?;
+        let spans = RecordSpans::read(alloc, &mut ahead)?;
+        let record = PackageRecord::copy(alloc, spans.view(cur.bytes()))?;
         *cur = ahead;
         Ok(record)
     }
-}
-
-// The spans of the record at a cursor over these bytes. The bytes are handed over so that the
-// contract can name them.
-fn spans_in(
-    alloc: Global,
-    _bytes: &[u8],
-    cur: &mut Cursor<'_>,
-) -> Result<RecordSpans, RecordRefusal>
-    ghost bytes: { List ℕ }
-    requires { IsIn bytes cur.old }
-    ensures { Gives (λ r. (fields_at bytes r, cur.new)) fault_of result (record_from cur.old) }
-{
-    RecordSpans::read(alloc, cur)
 }
 
 // A copy of a text, if it is there.

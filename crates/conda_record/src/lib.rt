@@ -24,8 +24,8 @@ mod writing;
 
 pub use data::is_data;
 pub use from_json::JsonRefusal;
-pub use laws::a_written_record_is_read;
+pub use laws::{a_record_stands_at_its_places, a_written_record_is_read};
 pub use record::PackageRecord;
 pub use refusal::RecordRefusal;
-pub use spans::RecordSpans;
+pub use spans::{Field, RecordSpans};
 pub use view::RecordView;

@@ -1,21 +1,21 @@
 //! Reading the spans of a record from a cursor, key by key.
 
-ghost use Rattle.std.specs.Prelude.{◌≡◌, List, ℕ, IfOk, IfErr, IfSome, OnErr, MatchResult, Some, None, is_some, slice_index_or, true};
-ghost use Rattle.std.specs.List.{list_all};
+ghost use Rattle.std.specs.Prelude.{◌≡◌, List, ℕ, IfOk, IfErr, IfSome, OnErr, MatchResult, None, is_some, slice_index_or};
 ghost use Rattle.gateway_words.specs.Places.{Position};
 ghost use Rattle.gateway_words.specs.Reading.{Gives};
 ghost use Rattle.mp_codec.specs.Fault.{IsFirstFault, WithBreaks};
 ghost use Rattle.mp_codec.specs.Reading.{Advances};
-ghost use Rattle.std.specs.Option.{option_map};
-ghost use Rattle.mp_codec.specs.Span.{IsIn, text_at};
+ghost use Rattle.mp_codec.specs.Span.{IsIn};
 ghost use Rattle.mp_codec.specs.Maps.{bytes_behind, place_of, unread, known_key_from, known_value_from};
-ghost use Rattle.conda_record.specs.Spans.{fields_at};
 ghost use Rattle.conda_record.specs.Record.{Fields, record_keys, RecordFault, RecordAt};
-ghost use Rattle.conda_record.specs.Reading.{fault_of, text, number, optional_text, texts, digest, Text, Number, OptionalText, Texts, Digest, datum_in, texts_seen, kept_by, place, known, datum_from, end_from, pairs_from, record_from};
+ghost use Rattle.conda_record.specs.Reading.{fault_of, text, number, optional_text, texts, digest};
+ghost use Rattle.conda_record.specs.Places.{fields_at};
+ghost use Rattle.conda_record.specs.Placing.{TextAt, NumberIs, OptionalTextAt, DigestAt, kept_by, place_from, places_end_from, place_pairs_from, places_from, spans_in};
+ghost use Rattle.conda_record.specs.Found.{place, kept, list_read, known};
 
 use crate::refusal::RecordRefusal;
 use crate::spans::RecordSpans;
-use crate::value::{digest_or_skip, span_or_skip, spans_or_skip};
+use crate::value::{digest_span_or_skip, span_or_skip, spans_or_skip};
 use mp_codec::{Cursor, FaultKind, FormatFault, Span};
 use std::alloc::Global;
 
@@ -37,6 +37,25 @@ enum Key {
     Noarch,
     // A key that isn't known.
     Other,
+}
+
+// What was read so far: of each known key what stands behind it, or None where the key wasn't met; a
+// value of another kind is `Some(None)`.
+#[derive(Drop)]
+struct Found {
+    name: Option<Span>,
+    version: Option<Span>,
+    build: Option<Span>,
+    build_number: Option<Option<u64>>,
+    depends: Option<Option<Vec<Span>>>,
+    constrains: Option<Option<Vec<Span>>>,
+    subdir: Option<Option<Span>>,
+    md5: Option<Option<Span>>,
+    sha256: Option<Option<Span>>,
+    size: Option<Option<u64>>,
+    timestamp: Option<Option<u64>>,
+    license: Option<Option<Span>>,
+    noarch: Option<Option<Span>>,
 }
 
 // The known key with these bytes.
@@ -77,13 +96,12 @@ fn key_of(key: Option<&[u8]>) -> Key
     }
 }
 
-impl RecordSpans {
+impl Found {
     // Nothing was read.
-    fn new() -> RecordSpans
-        ghost bytes: { List ℕ }
-        ensures { known bytes result ≡ unread record_keys }
+    fn new() -> Found
+        ensures { known result ≡ unread record_keys }
     {
-        RecordSpans {
+        Found {
             name: None,
             version: None,
             build: None,
@@ -102,8 +120,7 @@ impl RecordSpans {
 
     // Whether this key was read.
     fn has(&self, key: Key) -> bool
-        ghost bytes: { List ℕ }
-        ensures { result ≡ is_some (slice_index_or (known bytes self.now) (place key) None) }
+        ensures { result ≡ is_some (slice_index_or (known self.now) (place key) None) }
     {
         match key {
             Key::Name => self.name.is_some(),
@@ -131,11 +148,8 @@ impl RecordSpans {
         cur: &mut Cursor<'_>,
         key: Key,
     ) -> Result<(), RecordRefusal>
-        ghost bytes: { List ℕ }
-        requires { IsIn bytes cur.old }
-        ensures within { IsIn bytes cur.new }
-        ensures exact { Gives (λ _. (known bytes self.new, cur.new)) fault_of result
-            (known_value_from record_keys datum_from (known bytes self.old) (place key) cur.old) }
+        ensures { Gives (λ _. (known self.new, cur.new)) fault_of result
+            (known_value_from record_keys place_from (known self.old) (place key) cur.old) }
     {
         match key {
             Key::Name => read_text(cur, &mut self.name),
@@ -145,8 +159,8 @@ impl RecordSpans {
             Key::Depends => read_texts(alloc, cur, &mut self.depends),
             Key::Constrains => read_texts(alloc, cur, &mut self.constrains),
             Key::Subdir => read_optional_text(cur, &mut self.subdir),
-            Key::Md5 => read_digest(cur, &mut self.md5),
-            Key::Sha256 => read_digest(cur, &mut self.sha256),
+            Key::Md5 => read_digest(cur, 16, &mut self.md5),
+            Key::Sha256 => read_digest(cur, 32, &mut self.sha256),
             Key::Size => read_number(cur, &mut self.size),
             Key::Timestamp => read_number(cur, &mut self.timestamp),
             Key::License => read_optional_text(cur, &mut self.license),
@@ -155,19 +169,28 @@ impl RecordSpans {
         }
     }
 
-    // The end of the record, for which the required keys were read.
-    #[tactic(auto, unfolding(mp_codec::specs::Maps::known_end_from, crate::specs::Reading::end_from))]
-    fn end(&self, cur: &Cursor<'_>) -> Result<(), FormatFault>
-        ghost bytes: { List ℕ }
-        ensures { Advances (λ _. fields_at bytes self.now) cur.now result
-            (end_from (known bytes self.now) cur.now) }
+    // The record of what was read, which has the required keys.
+    #[tactic(auto, unfolding(mp_codec::specs::Maps::known_end_from, crate::specs::Placing::places_end_from))]
+    fn finish(&mut self, alloc: Global, cur: &Cursor<'_>) -> Result<RecordSpans, FormatFault>
+        ensures { Advances (λ r. r) cur.now result (places_end_from (known self.old) cur.now) }
     {
-        if self.name.is_some() && self.version.is_some() && self.build.is_some() {
-            return Ok(());
-        }
-        Err(FormatFault {
-            at: cur.at() as u64,
-            kind: FaultKind::Missing,
+        let (Some(name), Some(version), Some(build)) = (self.name, self.version, self.build) else {
+            return Err(FormatFault::new(cur.at(), FaultKind::Missing));
+        };
+        Ok(RecordSpans {
+            name,
+            version,
+            build,
+            build_number: self.build_number.flatten().unwrap_or(0),
+            depends: listed(alloc, &mut self.depends),
+            constrains: listed(alloc, &mut self.constrains),
+            subdir: self.subdir.flatten(),
+            md5: self.md5.flatten(),
+            sha256: self.sha256.flatten(),
+            size: self.size.flatten(),
+            timestamp: self.timestamp.flatten(),
+            license: self.license.flatten(),
+            noarch: self.noarch.flatten(),
         })
     }
 
@@ -178,33 +201,26 @@ impl RecordSpans {
         alloc: Global,
         cur: &mut Cursor<'_>,
         pairs: u32,
-    ) -> Result<(), RecordRefusal>
-        ghost bytes: { List ℕ }
-        requires within { IsIn bytes cur.old }
-        requires unread { known bytes self.old ≡ unread record_keys }
-        ensures within { IsIn bytes cur.new }
-        ensures exact { Gives (λ _. (fields_at bytes self.new, cur.new)) fault_of result
-            (pairs_from pairs (unread record_keys) cur.old) }
+    ) -> Result<RecordSpans, RecordRefusal>
+        requires { known self.old ≡ unread record_keys }
+        ensures { Gives (λ r. (r, cur.new)) fault_of result
+            (place_pairs_from pairs (unread record_keys) cur.old) }
     {
         for _ in 0..pairs {
             let key = next_key(cur, self)?;
             self.read_value(alloc, cur, key)?;
         }
-        Ok(self.end(cur)?)
+        Ok(self.finish(alloc, cur)?)
     }
+}
 
-    // Reads the record that stands at the cursor.
-    #[tactic(auto, unfolding(mp_codec::specs::Maps::map_from, crate::specs::Reading::record_from))]
-    fn read_here(&mut self, alloc: Global, cur: &mut Cursor<'_>) -> Result<(), RecordRefusal>
-        ghost bytes: { List ℕ }
-        requires within { IsIn bytes cur.old }
-        requires unread { known bytes self.old ≡ unread record_keys }
-        ensures within { IsIn bytes cur.new }
-        ensures exact { Gives (λ _. (fields_at bytes self.new, cur.new)) fault_of result
-            (record_from cur.old) }
-    {
-        let pairs = cur.map_len()?;
-        self.read_pairs(alloc, cur, pairs)
+// The spans of a list that was read, or none.
+fn listed(alloc: Global, slot: &mut Option<Option<Vec<Span>>>) -> Vec<Span>
+    ensures { result.items ≡ spans_in (kept list_read slot.old) }
+{
+    match slot.take() {
+        Some(Some(spans)) => spans,
+        Some(None) | None => Vec::new(alloc),
     }
 }
 
@@ -212,11 +228,7 @@ impl RecordSpans {
 // another, so that a call makes room for what it needs alone.
 #[inline(never)]
 fn read_text(cur: &mut Cursor<'_>, slot: &mut Option<Span>) -> Result<(), RecordRefusal>
-    ghost bytes: { List ℕ }
-    requires { IsIn bytes cur.old }
-    ensures within { IsIn bytes cur.new }
-    ensures exact { Gives (λ _. (datum_in (λ s. Text (text_at bytes s)) slot.new, cur.new)) fault_of
-        result (kept_by text cur.old) }
+    ensures { Gives (λ _. (kept TextAt slot.new, cur.new)) fault_of result (kept_by text cur.old) }
 {
     *slot = Some(cur.text_span()?);
     Ok(())
@@ -225,10 +237,7 @@ fn read_text(cur: &mut Cursor<'_>, slot: &mut Option<Span>) -> Result<(), Record
 // Reads a number, or passes over a value of another kind.
 #[inline(never)]
 fn read_number(cur: &mut Cursor<'_>, slot: &mut Option<Option<u64>>) -> Result<(), RecordRefusal>
-    ghost bytes: { List ℕ }
-    requires { IsIn bytes cur.old }
-    ensures within { IsIn bytes cur.new }
-    ensures exact { Gives (λ _. (datum_in Number slot.new, cur.new)) fault_of result
+    ensures { Gives (λ _. (kept NumberIs slot.new, cur.new)) fault_of result
         (kept_by number cur.old) }
 {
     *slot = Some(cur.number_or_skip()?);
@@ -241,12 +250,8 @@ fn read_optional_text(
     cur: &mut Cursor<'_>,
     slot: &mut Option<Option<Span>>,
 ) -> Result<(), RecordRefusal>
-    ghost bytes: { List ℕ }
-    requires { IsIn bytes cur.old }
-    ensures within { IsIn bytes cur.new }
-    ensures exact { Gives
-        (λ _. (datum_in (λ s. OptionalText (option_map (text_at bytes) s)) slot.new, cur.new))
-        fault_of result (kept_by optional_text cur.old) }
+    ensures { Gives (λ _. (kept OptionalTextAt slot.new, cur.new)) fault_of result
+        (kept_by optional_text cur.old) }
 {
     *slot = Some(span_or_skip(cur)?);
     Ok(())
@@ -259,80 +264,75 @@ fn read_texts(
     cur: &mut Cursor<'_>,
     slot: &mut Option<Option<Vec<Span>>>,
 ) -> Result<(), RecordRefusal>
-    ghost bytes: { List ℕ }
-    requires { IsIn bytes cur.old }
-    ensures within { IsIn bytes cur.new }
-    ensures exact { Gives
-        (λ _. (datum_in (λ ts. Texts (texts_seen bytes ts)) slot.new, cur.new)) fault_of result
+    ensures { Gives (λ _. (kept list_read slot.new, cur.new)) fault_of result
         (kept_by texts cur.old) }
 {
     *slot = Some(spans_or_skip(alloc, cur)?);
     Ok(())
 }
 
-// Reads a digest, or passes over a value of another kind.
+// Reads a digest of so many bytes, or passes over a value of another kind.
 #[inline(never)]
-fn read_digest<const N: usize>(
+fn read_digest(
     cur: &mut Cursor<'_>,
-    slot: &mut Option<Option<[u8; N]>>,
+    digest_len: u16,
+    slot: &mut Option<Option<Span>>,
 ) -> Result<(), RecordRefusal>
-    ghost bytes: { List ℕ }
-    requires { IsIn bytes cur.old }
-    ensures within { IsIn bytes cur.new }
-    ensures exact { Gives (λ _. (datum_in Digest slot.new, cur.new)) fault_of result
-        (kept_by (digest N) cur.old) }
+    ensures { Gives (λ _. (kept DigestAt slot.new, cur.new)) fault_of result
+        (kept_by (digest digest_len) cur.old) }
 {
-    *slot = Some(digest_or_skip(cur)?);
+    *slot = Some(digest_span_or_skip(cur, digest_len)?);
     Ok(())
 }
 
 // The key that stands at the cursor, which was not read before if it is known.
 #[tactic(auto, unfolding(mp_codec::specs::Maps::known_key_from))]
-fn next_key(cur: &mut Cursor<'_>, found: &RecordSpans) -> Result<Key, FormatFault>
-    ghost bytes: { List ℕ }
-    requires { IsIn bytes cur.old }
-    ensures within { IsIn bytes cur.new }
-    ensures exact { Advances place cur.new result
-        (known_key_from record_keys (known bytes found.now) cur.old) }
+fn next_key(cur: &mut Cursor<'_>, found: &Found) -> Result<Key, FormatFault>
+    ensures { Advances place cur.new result
+        (known_key_from record_keys (known found.now) cur.old) }
 {
     let at = cur.at();
     let key = key_of(cur.str_or_skip()?);
     if found.has(key) {
-        return Err(FormatFault {
-            at: at as u64,
-            kind: FaultKind::Repeated,
-        });
+        return Err(FormatFault::new(at, FaultKind::Repeated));
     }
     Ok(key)
 }
 
-impl RecordSpans {
-    /// The spans of the record that stands at the cursor, which goes behind it. Contracts see its
-    /// fields in the bytes that the cursor goes over.
-    ///
-    /// Refuses as `PackageRecord::read` does. Texts are not copied.
-    pub fn read(alloc: Global, cur: &mut Cursor<'_>) -> Result<RecordSpans, RecordRefusal>
-        ghost bytes: { List ℕ }
-        requires { IsIn bytes cur.old }
+// The spans of the record that stands at the cursor.
+#[tactic(auto, unfolding(mp_codec::specs::Maps::map_from, crate::specs::Placing::places_from))]
+fn read_here(alloc: Global, cur: &mut Cursor<'_>) -> Result<RecordSpans, RecordRefusal>
+    ensures { Gives (λ r. (r, cur.new)) fault_of result (places_from cur.old) }
+{
+    let pairs = cur.map_len()?;
+    Found::new().read_pairs(alloc, cur, pairs)
+}
 
+impl RecordSpans {
+    /// The spans of the record that stands at the cursor, which goes behind it. They are places in
+    /// the bytes that the cursor goes over.
+    ///
+    /// Refuses as `PackageRecord::read` does. Texts are not copied, and a digest that is hexadecimal
+    /// text is not decoded.
+    pub fn read(alloc: Global, cur: &mut Cursor<'_>) -> Result<RecordSpans, RecordRefusal>
         // What is read stands there, and nothing is wrong with it.
-        ensures found { IfOk result (λ r. RecordAt cur.old (fields_at bytes r) cur.new) }
+        ensures found { IfOk result (λ r. (bytes : List ℕ) → IsIn bytes cur.old
+            → RecordAt cur.old (fields_at bytes r) cur.new) }
         // What stands there with nothing wrong is read, unless memory runs out.
-        ensures only { (fields : Fields) (there : Position) → RecordAt cur.old fields there
+        ensures only { (bytes : List ℕ) (fields : Fields) (there : Position) → IsIn bytes cur.old
+            → RecordAt cur.old fields there
             → MatchResult result (λ r. (fields_at bytes r ≡ fields) × (cur.new ≡ there))
             (λ e. e ≡ RecordRefusal.Memory) }
         // A fault is the first one.
         ensures fault { IfErr result (λ e.
             IfSome (fault_of e) (IsFirstFault (WithBreaks RecordFault cur.old))) }
         ensures unchanged { OnErr result (cur.new ≡ cur.old) }
-        ensures within { IsIn bytes cur.new }
 
-        ensures exact { Gives (λ r. (fields_at bytes r, cur.new)) fault_of result
-            (record_from cur.old) }
+        // The places are those at which the record's texts and digests stand.
+        ensures exact { Gives (λ r. (r, cur.new)) fault_of result (places_from cur.old) }
     {
         let mut ahead = cur.copy();
-        let mut record = RecordSpans::new();
-        record.read_here(alloc, &mut ahead)?;
+        let record = read_here(alloc, &mut ahead)?;
         *cur = ahead;
         Ok(record)
     }

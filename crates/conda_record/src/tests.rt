@@ -3,7 +3,7 @@
 
 use crate::record::PackageRecord;
 use crate::refusal::RecordRefusal;
-use crate::spans::RecordSpans;
+use crate::spans::{Field, RecordSpans};
 use crate::view::RecordView;
 use mp_codec::FaultKind::{self, Missing, NotText, Repeated, Reserved, Short, Wrong};
 use mp_codec::{Cursor, FormatFault};
@@ -37,7 +37,7 @@ const REQUIRED: &[u8] = b"\x83\xa4name\xa1a\xa7version\xa11\xa5build\xa10";
 
 // Bytes behind a nil, so that places are counted from the first byte, and the fault in the record
 // that stands behind it.
-const FAULTS: [(&[u8], FaultKind, u64); 32] = [
+const FAULTS: [(&[u8], FaultKind, u64); 34] = [
     // The bytes end within the head, a key, a value, or in front of a pair.
     (b"\xc0", Short, 1),
     (b"\xc0\xde\x00", Short, 3),
@@ -47,6 +47,9 @@ const FAULTS: [(&[u8], FaultKind, u64); 32] = [
     (b"\xc0\x83\xa4name\xa1a", Short, 9),
     (b"\xc0\x81\xa4size\xcf\x00", Short, 9),
     (b"\xc0\x81\xa7depends\x92\xa1a", Short, 13),
+    // More elements of a list are claimed than there are bytes.
+    (b"\xc0\x81\xa7depends\xdd\xff\xff\xff\xff", Short, 15),
+    (b"\xc0\x81\xaaconstrains\xdd\xff\xff\xff\xff", Short, 18),
     (b"\xc0\x81\xa3md5\xc4\x10\x00", Short, 9),
     (b"\xc0\x81\xa6sha256\xd9\x40c", Short, 12),
     // The byte that is never used, as the record, a key, and within values of every depth.
@@ -147,6 +150,33 @@ const OTHER_KINDS: [&[u8]; 13] = [
     b"\xc7\x02\x05\xff\xff",
 ];
 
+// Where the texts of the record with all keys stand, and those that it has not.
+const PLACES: [(Field, Option<(usize, usize)>); 11] = [
+    (Field::Name, Some((22, 27))),
+    (Field::Version, Some((10, 16))),
+    (Field::Build, Some((34, 40))),
+    (Field::Subdir, Some((109, 117))),
+    (Field::License, Some((265, 277))),
+    (Field::Noarch, Some((285, 291))),
+    (Field::Depend(0), Some((66, 78))),
+    (Field::Depend(1), Some((79, 83))),
+    (Field::Depend(2), None),
+    (Field::Constrain(0), Some((96, 101))),
+    (Field::Constrain(1), None),
+];
+
+// Where texts stand that are empty, and those that are not there, in the last record of `WRITTEN`.
+const EMPTY_PLACES: [(Field, Option<(usize, usize)>); 8] = [
+    (Field::Name, Some((40, 40))),
+    (Field::Version, Some((49, 49))),
+    (Field::Build, Some((34, 34))),
+    (Field::Subdir, None),
+    (Field::License, None),
+    (Field::Noarch, Some((27, 27))),
+    (Field::Depend(0), None),
+    (Field::Constrain(0), None),
+];
+
 // What is wrong, and where.
 fn in_parts(outcome: Result<PackageRecord, RecordRefusal>) -> Option<(FaultKind, u64)> {
     match outcome {
@@ -240,6 +270,20 @@ fn spans(alloc: Global, bytes: &[u8]) -> Result<RecordSpans, Fail> {
         Ok(spans) => Ok(spans),
         Err(refusal) => Err(refusal.into()),
     }
+}
+
+#[test]
+fn a_span_is_where_its_text_stands(rt: HostRuntime) -> Result<(), Fail> {
+    let record = spans(rt.alloc(), ALL_KEYS)?;
+    for (field, place) in PLACES {
+        assert_eq!(rt; record.span(field), place, "{field:?}");
+    }
+    let (bytes, _) = WRITTEN[2];
+    let record = spans(rt.alloc(), bytes)?;
+    for (field, place) in EMPTY_PLACES {
+        assert_eq!(rt; record.span(field), place, "{field:?}");
+    }
+    Ok(())
 }
 
 #[test]

@@ -1,12 +1,13 @@
 //! A record to look at.
 
-ghost use Rattle.std.specs.Prelude.{◌≡◌};
+ghost use Rattle.std.specs.Prelude.{◌≡◌, ◌==◌, if◌then◌else◌, length, Some, None, option_and_then};
 ghost use Rattle.std.specs.Option.{option_copied, option_map};
 ghost use Rattle.mp_codec.specs.Span.{text_at};
-ghost use Rattle.conda_record.specs.Spans.{text_or_empty, spans_of};
+ghost use Rattle.conda_record.specs.Digests.{digest_in_bytes, digest_at};
 
 use crate::record::PackageRecord;
 use crate::spans::RecordSpans;
+use hex::FromHex;
 use mp_codec::Span;
 
 /// The fields of a record, to look at. Contracts see them by `seen` (`specs/View`).
@@ -42,12 +43,22 @@ impl PackageRecord {
 #[tactic(auto, unfolding(crate::specs::View::seen))]
 impl RecordSpans {
     ghost use Rattle.std.specs.Prelude.{◌≡◌};
-    ghost use Rattle.conda_record.specs.Spans.{fields_at};
+    ghost use Rattle.std.specs.Prelude.{Ok};
+    ghost use Rattle.gateway_words.specs.Places.{Position};
+    ghost use Rattle.mp_codec.specs.Span.{IsIn};
+    ghost use Rattle.conda_record.specs.Record.{RecordAt};
+    ghost use Rattle.conda_record.specs.Places.{fields_at};
+    ghost use Rattle.conda_record.specs.Placing.{places_from};
     ghost use Rattle.conda_record.specs.View.{seen};
 
-    /// The record's fields in the bytes in which it was read, to look at.
+    /// The record's fields in the bytes in which it was read, to look at: `bytes` are those that the
+    /// cursor went over. In other bytes it shows what stands at its places there. Nothing is copied.
     pub fn view<'a>(&'a self, bytes: &'a [u8]) -> RecordView<'a>
-        ensures { seen result ≡ fields_at bytes.now self.now }
+        // In the bytes in which it was read it shows the record that stands there.
+        ensures shown { (here there : Position) → IsIn bytes.now here
+            → places_from here ≡ Ok (self.now, there) → RecordAt here (seen result) there }
+
+        ensures exact { seen result ≡ fields_at bytes.now self.now }
     {
         RecordView {
             shown: Shown::Spans(self, bytes),
@@ -55,7 +66,7 @@ impl RecordSpans {
     }
 }
 
-#[tactic(auto, unfolding(crate::specs::View::seen, crate::specs::Spans::fields_at))]
+#[tactic(auto, unfolding(crate::specs::View::seen, crate::specs::Places::fields_at))]
 impl<'a> RecordView<'a> {
     ghost use Rattle.std.specs.Prelude.{◌≡◌, length, slice_get, Some, None};
     ghost use Rattle.std.specs.Option.{option_copied};
@@ -67,7 +78,7 @@ impl<'a> RecordView<'a> {
     {
         match self.shown {
             Shown::Record(record) => record.name.as_str(),
-            Shown::Spans(spans, bytes) => text_or_empty(bytes, spans.name),
+            Shown::Spans(spans, bytes) => spans.name.text(bytes),
         }
     }
 
@@ -77,7 +88,7 @@ impl<'a> RecordView<'a> {
     {
         match self.shown {
             Shown::Record(record) => record.version.as_str(),
-            Shown::Spans(spans, bytes) => text_or_empty(bytes, spans.version),
+            Shown::Spans(spans, bytes) => spans.version.text(bytes),
         }
     }
 
@@ -87,7 +98,7 @@ impl<'a> RecordView<'a> {
     {
         match self.shown {
             Shown::Record(record) => record.build.as_str(),
-            Shown::Spans(spans, bytes) => text_or_empty(bytes, spans.build),
+            Shown::Spans(spans, bytes) => spans.build.text(bytes),
         }
     }
 
@@ -97,7 +108,7 @@ impl<'a> RecordView<'a> {
     {
         match self.shown {
             Shown::Record(record) => record.build_number,
-            Shown::Spans(spans, _) => spans.build_number.flatten().unwrap_or(0),
+            Shown::Spans(spans, _) => spans.build_number,
         }
     }
 
@@ -107,7 +118,7 @@ impl<'a> RecordView<'a> {
     {
         match self.shown {
             Shown::Record(record) => record.depends.len(),
-            Shown::Spans(spans, _) => spans_of(&spans.depends).len(),
+            Shown::Spans(spans, _) => spans.depends.len(),
         }
     }
 
@@ -118,7 +129,7 @@ impl<'a> RecordView<'a> {
     {
         match self.shown {
             Shown::Record(record) => record.depends.get(i).map(|text| text.as_str()),
-            Shown::Spans(spans, bytes) => text_if(bytes, spans_of(&spans.depends).get(i).copied()),
+            Shown::Spans(spans, bytes) => text_if(bytes, spans.depends.get(i).copied()),
         }
     }
 
@@ -128,7 +139,7 @@ impl<'a> RecordView<'a> {
     {
         match self.shown {
             Shown::Record(record) => record.constrains.len(),
-            Shown::Spans(spans, _) => spans_of(&spans.constrains).len(),
+            Shown::Spans(spans, _) => spans.constrains.len(),
         }
     }
 
@@ -141,7 +152,7 @@ impl<'a> RecordView<'a> {
             Shown::Record(record) => record.constrains.get(i).map(|text| text.as_str()),
             Shown::Spans(spans, bytes) => text_if(
                 bytes,
-                spans_of(&spans.constrains).get(i).copied(),
+                spans.constrains.get(i).copied(),
             ),
         }
     }
@@ -152,7 +163,7 @@ impl<'a> RecordView<'a> {
     {
         match self.shown {
             Shown::Record(record) => record.subdir.as_ref().map(|text| text.as_str()),
-            Shown::Spans(spans, bytes) => text_if(bytes, spans.subdir.flatten()),
+            Shown::Spans(spans, bytes) => text_if(bytes, spans.subdir),
         }
     }
 
@@ -162,7 +173,7 @@ impl<'a> RecordView<'a> {
     {
         match self.shown {
             Shown::Record(record) => record.md5,
-            Shown::Spans(spans, _) => spans.md5.flatten(),
+            Shown::Spans(spans, bytes) => digest_if(bytes, spans.md5),
         }
     }
 
@@ -172,7 +183,7 @@ impl<'a> RecordView<'a> {
     {
         match self.shown {
             Shown::Record(record) => record.sha256,
-            Shown::Spans(spans, _) => spans.sha256.flatten(),
+            Shown::Spans(spans, bytes) => digest_if(bytes, spans.sha256),
         }
     }
 
@@ -182,7 +193,7 @@ impl<'a> RecordView<'a> {
     {
         match self.shown {
             Shown::Record(record) => record.size,
-            Shown::Spans(spans, _) => spans.size.flatten(),
+            Shown::Spans(spans, _) => spans.size,
         }
     }
 
@@ -192,7 +203,7 @@ impl<'a> RecordView<'a> {
     {
         match self.shown {
             Shown::Record(record) => record.timestamp,
-            Shown::Spans(spans, _) => spans.timestamp.flatten(),
+            Shown::Spans(spans, _) => spans.timestamp,
         }
     }
 
@@ -202,7 +213,7 @@ impl<'a> RecordView<'a> {
     {
         match self.shown {
             Shown::Record(record) => record.license.as_ref().map(|text| text.as_str()),
-            Shown::Spans(spans, bytes) => text_if(bytes, spans.license.flatten()),
+            Shown::Spans(spans, bytes) => text_if(bytes, spans.license),
         }
     }
 
@@ -212,7 +223,7 @@ impl<'a> RecordView<'a> {
     {
         match self.shown {
             Shown::Record(record) => record.noarch.as_ref().map(|text| text.as_str()),
-            Shown::Spans(spans, bytes) => text_if(bytes, spans.noarch.flatten()),
+            Shown::Spans(spans, bytes) => text_if(bytes, spans.noarch),
         }
     }
 }
@@ -227,22 +238,21 @@ fn text_if(bytes: &[u8], span: Option<Span>) -> Option<&str>
     }
 }
 
-// The text at a span of some bytes, or the empty one where there is no span.
-fn text_or_empty(bytes: &[u8], span: Option<Span>) -> &str
-    ensures { result.now ≡ text_or_empty bytes.now span }
+// The digest at a span of some bytes, if there is a span and one stands there.
+fn digest_if<const N: usize>(bytes: &[u8], span: Option<Span>) -> Option<[u8; N]>
+    ensures { result ≡ option_and_then (digest_at N bytes.now) span }
 {
-    match span {
-        Some(span) => span.text(bytes),
-        None => "",
-    }
+    digest_in(span?.part(bytes)?)
 }
 
-// The spans of a list that was read, or none.
-fn spans_of(list: &Option<Option<Vec<Span>>>) -> &[Span]
-    ensures { result.now ≡ spans_of list.now }
+// The digest that some bytes are, as bytes or as hexadecimal digits.
+fn digest_in<const N: usize>(bytes: &[u8]) -> Option<[u8; N]>
+    ensures { result ≡ digest_in_bytes N bytes.now }
 {
-    match list {
-        Some(Some(spans)) => spans.as_slice(),
-        Some(None) | None => &[],
+    if bytes.len() != N {
+        return <[u8; N] as FromHex>::from_hex(bytes).ok();
     }
+    let mut array = [0; N];
+    array.copy_from_slice(bytes);
+    Some(array)
 }

@@ -162,26 +162,16 @@ fn put_texts_if_any(out: &mut Vec<u8>, key: &str, texts: &[Text]) -> Result<(), 
     put_texts(out, key, texts)
 }
 
-// Appends a key and a digest of 16 bytes, if there is one.
-fn put_md5_if(out: &mut Vec<u8>, key: &str, digest: Option<[u8; 16]>) -> Result<(), AllocError>
-    requires { IsShort key.now }
+// Appends a key and a digest, if there is one.
+fn put_digest_if<const N: usize>(
+    out: &mut Vec<u8>,
+    key: &str,
+    digest: Option<[u8; N]>,
+) -> Result<(), AllocError>
+    requires { (IsShort key.now) × (N < 2 ^ 32) }
     ensures ok { OnOk result (out.new.items ≡ out.old.items
-        ++ pair_bytes key.now (option_map bin_bytes digest)) }
-    ensures length { IfSome digest (λ digest. length digest ≡ 16) }
-    ensures kept { OnErr result (take (length out.old.items) out.new.items ≡ out.old.items) }
-{
-    match digest {
-        Some(digest) => put_bytes(out, key, &digest),
-        None => Ok(()),
-    }
-}
-
-// Appends a key and a digest of 32 bytes, if there is one.
-fn put_sha256_if(out: &mut Vec<u8>, key: &str, digest: Option<[u8; 32]>) -> Result<(), AllocError>
-    requires { IsShort key.now }
-    ensures ok { OnOk result (out.new.items ≡ out.old.items
-        ++ pair_bytes key.now (option_map bin_bytes digest)) }
-    ensures length { IfSome digest (λ digest. length digest ≡ 32) }
+        ++ pair_bytes key.now (option_map bin_bytes digest.entry)) }
+    ensures length { IfSome digest.entry (λ digest. length digest ≡ N) }
     ensures kept { OnErr result (take (length out.old.items) out.new.items ≡ out.old.items) }
 {
     match digest {
@@ -333,8 +323,8 @@ impl PackageRecord {
     {
         put_texts_if_any(out, "constrains", &self.constrains)?;
         put_text_if(out, "subdir", &self.subdir)?;
-        put_md5_if(out, "md5", self.md5)?;
-        put_sha256_if(out, "sha256", self.sha256)
+        put_digest_if(out, "md5", self.md5)?;
+        put_digest_if(out, "sha256", self.sha256)
     }
 
     // Appends the keys from `size` on.

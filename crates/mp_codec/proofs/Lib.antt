@@ -20,6 +20,7 @@ pub mod WrittenLemmas
 pub mod AppendLemmas
 pub mod ShortestLemmas
 pub mod SpanLemmas
+pub mod PlacedLemmas
 pub mod StrLemmas
 pub mod AsciiLemmas
 pub mod SortingLemmas

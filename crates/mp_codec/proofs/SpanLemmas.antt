@@ -1,9 +1,9 @@
 -- The text of a str stands in the bytes that its value lies in, just before the position behind the value.
-use Rattle.std.proofs.Common.{◌≡◌, sym, ◌∙◌, ap, subst, ℕ, suc, ◌+◌, ◌-◌, ◌≤◌, Bool, true, ◌&&◌, List, [], ◌++◌, length, take, drop, arith, length-append, append_assoc, append-nil}
+use Rattle.std.proofs.Common.{◌≡◌, sym, ◌∙◌, ap, subst, ℕ, suc, ◌+◌, ◌-◌, ◌≤◌, Bool, true, ◌&&◌, List, [], ◌++◌, length, take, drop, replicate, arith, length-append, append_assoc, append-nil}
 use Rattle.std.specs.Prelude.{Result, Ok, Err, Option, Some, None, nat_le, slice_range, if◌then◌else◌}
 use Rattle.std.specs.Str.{is_utf8}
 use Rattle.std.proofs.lemmas.Bool.{le-leb}
-use Rattle.std.proofs.lemmas.List.{drop-drop, length-drop}
+use Rattle.std.proofs.lemmas.List.{drop-drop, length-drop, length-replicate}
 use Rattle.std.proofs.Math.Seq.{drop-append_seam, take-append_seam}
 use Rattle.std.specs.Borrow.{Bor}
 use Rattle.gateway_words.specs.Places.{Position, Between}
@@ -16,7 +16,9 @@ use Rattle.mp_codec.specs.Spelling.{HeadLies, Lies}
 use Rattle.mp_codec.specs.Fault.{TextFault, ValueLies}
 use Rattle.mp_codec.specs.Reading.{Steps, head_from, bytes_from}
 use Rattle.mp_codec.specs.Maps.{text_from}
-use Rattle.mp_codec.specs.Span.{IsIn, text_or_none, text_at}
+use Rattle.mp_codec.specs.Span.{IsIn, part_of, text_or_none, text_at, span_before, span_from}
+use Rattle.gateway_words.specs.Reading.{◌>>=◌}
+use Rattle.mp_codec.proofs.BindLemmas.{bind_ok}
 use Rattle.mp_codec.proofs.CursorLemmas.{head_found, take_found}
 use Rattle.mp_codec.proofs.LeafLemmas.{IsText, text_judged}
 use Rattle.mp_codec.proofs.JudgingLemmas.{Reads}
@@ -97,10 +99,6 @@ str_before bytes text (value (head.Array n) payload parts) here there i l is = a
 str_before bytes text (value (head.Map n) payload parts) here there i l is = absurd (cc)
 str_before bytes text (value (head.Ext n) payload parts) here there i l is = absurd (cc)
 
--- the span of the last bytes before a position
-abbrev pub span_before : ℕ → Position → Span
-span_before len there = record { start = there.at - len; end = there.at }
-
 -- bytes that stand before a position are at their span
 pub before_at : (bytes text : List ℕ) (there : Position) → StandsBefore bytes text there → is_utf8 text ≡ true → text_at bytes (span_before (length text) there) ≡ text
 unfolding text_at
@@ -130,19 +128,39 @@ text_in bytes text here there i e =
 pub str_spans : (bytes text : List ℕ) (here there : Position) → IsIn bytes here → ValueLies str_of (Some text) here there → is_utf8 text ≡ true → text_at bytes (span_before (length text) there) ≡ text
 str_spans bytes text here there i l u = before_at bytes text there (str_before bytes text l.value here there i l.lies l.is) u
 
--- where a span ends, and how far before that it begins
-pub record IsBefore (bytes : List ℕ) (span : Span) (there : Position) : Type 0 where
-  pub end : span.end ≡ there.at
-  pub start : span.start + length (text_at bytes span) ≡ span.end
+-- where a text was read its span is
+pub span_read : (text : List ℕ) (here there : Position) → text_from here ≡ Ok (text, there) → span_from here ≡ Ok (span_before (length text) there, there)
+unfolding span_from
+span_read text here there e = bind_ok (text_from here) (λ t. Ok (span_before (length t.0) t.1, t.1)) (text, there) e
 
--- the span of a text that was read is where it was read
-pub text_place : (bytes text : List ℕ) (here there : Position) (span : Span) → IsIn bytes here → text_from here ≡ Ok (text, there) → span ≡ span_before (length text) there → IsBefore bytes span there
-text_place bytes text here there span i e is =
-    let r : Reads TextFault IsText here text there = judged_reads TextFault IsText here (text_from here) (text_judged here) text there e in
-    let stands : StandsBefore bytes text there = str_before bytes text r.value here there i r.lies r.means.0 in
-    let fits : length text ≤ there.at = stands.fits in
-    let same : text_at bytes span ≡ text = ap (text_at bytes) is ∙ before_at bytes text there stands r.means.1 in
-    let len : length (text_at bytes span) ≡ length text = ap length same in
-    let start : span.start ≡ there.at - length text = ap (λ (s : Span). s.start) is in
-    let end : span.end ≡ there.at = ap (λ (s : Span). s.end) is in
-    record { end = end; start = omega arith }
+-- bytes between two positions are the part of the bytes from the one place to the other
+pub part_between : (bytes s : List ℕ) (here there : Position) → IsIn bytes here → Between s here there → part_of bytes (record { start = here.at; end = there.at }) ≡ Some s
+part_between bytes s here there i b =
+    let w : StandsBefore bytes s there = between_before bytes [] s here there i b in
+    let at : there.at ≡ here.at + length s = b.at in
+    let first : nat_le here.at there.at ≡ true = le-leb here.at there.at (omega arith) in
+    let last : nat_le there.at (length bytes) ≡ true = le-leb there.at (length bytes) w.within in
+    let start : here.at ≡ there.at - length s = omega arith in
+    ap (λ (b : Bool). if b && nat_le there.at (length bytes) then Some (slice_range bytes here.at there.at) else None) first
+    ∙ ap (λ (b : Bool). if b then Some (slice_range bytes here.at there.at) else None) last
+    ∙ ap (λ (t : List ℕ). Some t) (ap (λ (k : ℕ). slice_range bytes k there.at) start ∙ w.are)
+
+-- so many bytes
+abbrev zeros : ℕ → List ℕ
+zeros n = replicate n 0
+
+zeros_len : (n : ℕ) → length (zeros n) ≡ n
+zeros_len n = length-replicate n 0
+
+-- some bytes in which a position is
+abbrev pub padded : Position → List ℕ
+padded here = zeros here.at ++ here.left
+
+pub padded_in : (here : Position) → IsIn (padded here) here
+padded_in here = record {
+  within = subst (λ (k : ℕ). k ≤ length (padded here)) (zeros_len here.at) (fits (zeros here.at) here.left);
+  left = sym (ap (λ (k : ℕ). drop k (padded here)) (sym (zeros_len here.at)) ∙ drop-append_seam (zeros here.at) here.left);
+}
+  where
+    fits : (xs ys : List ℕ) → length xs ≤ length (xs ++ ys)
+    fits xs ys = omega (arith, length-append xs ys)

@@ -8,5 +8,6 @@ pub mod Reading
 pub mod Maps
 pub mod Keys
 pub mod Span
+pub mod Room
 pub use Rattle.gateway_words.specs.Places
 pub use Rattle.gateway_words.specs.Reading as Readings

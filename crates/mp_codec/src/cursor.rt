@@ -255,10 +255,7 @@ impl<'a> Cursor<'a> {
             | FaultKind::Missing
             | FaultKind::Repeated
             | FaultKind::Trailing
-            | FaultKind::Version => FormatFault {
-                at: self.at as u64,
-                kind,
-            },
+            | FaultKind::Version => FormatFault::new(self.at, kind),
         }
     }
 
@@ -266,9 +263,6 @@ impl<'a> Cursor<'a> {
     fn short(&self) -> FormatFault
         ensures { result ≡ short self.now }
     {
-        FormatFault {
-            at: self.bytes.len() as u64,
-            kind: FaultKind::Short,
-        }
+        FormatFault::new(self.bytes.len(), FaultKind::Short)
     }
 }

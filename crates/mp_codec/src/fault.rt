@@ -1,5 +1,7 @@
 //! What may be wrong with bytes that should be a value, a record, a shard or an index.
 
+ghost use Rattle.std.specs.Prelude.{◌≡◌};
+
 /// What is wrong.
 #[derive(Clone, Copy, Debug, PartialEq, Eq)]
 pub enum FaultKind {
@@ -29,4 +31,16 @@ pub struct FormatFault {
     pub at: u64,
     /// What is wrong there.
     pub kind: FaultKind,
+}
+
+impl FormatFault {
+    /// The fault of this kind at a place, which is counted in bytes from 0.
+    pub fn new(at: usize, kind: FaultKind) -> FormatFault
+        ensures { result ≡ record { at = at; kind = kind } }
+    {
+        FormatFault {
+            at: at as u64,
+            kind,
+        }
+    }
 }

@@ -13,6 +13,7 @@ mod fault;
 mod head;
 mod laws;
 mod reading;
+mod room;
 mod span;
 #[cfg(test)]
 mod tests;
@@ -27,6 +28,7 @@ pub use laws::{
     what_is_written_is_shortest, what_is_written_stands,
 };
 pub use reading::utf8_text;
+pub use room::room_for;
 pub use span::Span;
 pub use text::Text;
 pub use writing::{cut_back, put_array, put_bin, put_map, put_str, put_uint};

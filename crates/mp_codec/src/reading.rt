@@ -5,7 +5,6 @@ ghost use Rattle.std.specs.Str.{is_utf8, IsAscii};
 ghost use Rattle.gateway_words.specs.Places.{Position};
 ghost use Rattle.mp_codec.specs.declared.head.Head.{Head};
 ghost use Rattle.mp_codec.specs.declared.fault.FormatFault.{FormatFault};
-ghost use Rattle.mp_codec.specs.declared.fault.FaultKind.{FaultKind};
 ghost use Rattle.mp_codec.specs.Value.{number_of, str_of};
 ghost use Rattle.mp_codec.specs.Spelling.{HeadLies, Breaks};
 ghost use Rattle.mp_codec.specs.Fault.{IsFirstFault, WithBreaks, TextFault, ValueLies};
@@ -206,8 +205,12 @@ fn map_len_ahead(cursor: &mut Cursor<'_>) -> Result<u32, FormatFault>
     let at = cursor.at();
     match cursor.head()? {
         Head::Map(pairs) => Ok(pairs),
-        Head::Nil | Head::Bool(_) | Head::Int(_) | Head::Float => Err(wrong(at)),
-        Head::Str(_) | Head::Bin(_) | Head::Array(_) | Head::Ext(_) => Err(wrong(at)),
+        Head::Nil | Head::Bool(_) | Head::Int(_) | Head::Float => {
+            Err(FormatFault::new(at, FaultKind::Wrong))
+        }
+        Head::Str(_) | Head::Bin(_) | Head::Array(_) | Head::Ext(_) => {
+            Err(FormatFault::new(at, FaultKind::Wrong))
+        }
     }
 }
 
@@ -217,15 +220,12 @@ fn text_ahead<'a>(cursor: &mut Cursor<'a>) -> Result<&'a str, FormatFault>
 {
     let at = cursor.at();
     let Head::Str(len) = cursor.head()? else {
-        return Err(wrong(at));
+        return Err(FormatFault::new(at, FaultKind::Wrong));
     };
     let bytes = cursor.take(len)?;
     match utf8_text(bytes) {
         Some(text) => Ok(text),
-        None => Err(FormatFault {
-            at: at as u64,
-            kind: FaultKind::NotText,
-        }),
+        None => Err(FormatFault::new(at, FaultKind::NotText)),
     }
 }
 
@@ -256,14 +256,4 @@ fn number_or_skip_ahead(cursor: &mut Cursor<'_>) -> Result<Option<u64>, FormatFa
     }
     cursor.skip()?;
     Ok(None)
-}
-
-// A value of another kind than the one that must stand here.
-fn wrong(at: usize) -> FormatFault
-    ensures { result ≡ record { at = at; kind = FaultKind.Wrong } }
-{
-    FormatFault {
-        at: at as u64,
-        kind: FaultKind::Wrong,
-    }
 }

@@ -7,6 +7,7 @@ use crate::fault::FaultKind::{NotText, Reserved, Short, Wrong};
 use crate::fault::{FaultKind, FormatFault};
 use crate::head::Head;
 use crate::reading::utf8_text;
+use crate::room::room_for;
 use crate::span::Span;
 use crate::text::Text;
 use crate::writing::{put_array, put_bin, put_map, put_str, put_uint};
@@ -597,15 +598,25 @@ fn a_span_shows_its_text_or_none(rt: HostRuntime) -> Result<(), Fail> {
 }
 
 #[test]
-fn a_cursor_gives_its_bytes_and_the_span_before_it(rt: HostRuntime) -> Result<(), Fail> {
-    let bytes: &[u8] = b"\xa1n\x07";
+fn a_text_and_the_bytes_of_a_str_are_given_with_their_span(rt: HostRuntime) -> Result<(), Fail> {
+    let bytes: &[u8] = b"\xa1n\xd9\x02ab\x07";
     let mut cursor = Cursor::new(bytes);
-    assert_eq!(rt; in_parts(cursor.text()), Ok("n"));
+    let (text, span) = in_parts(cursor.placed_text())?;
+    assert_eq!(rt; (text, span.start, span.end), ("n", 1, 2));
+    let placed = in_parts(cursor.placed_str_or_skip())?;
+    assert_eq!(rt; placed, Some((b"ab".as_slice(), Span { start: 4, end: 6 })));
+    assert_eq!(rt; in_parts(cursor.placed_str_or_skip())?, None);
+    assert!(rt; cursor.is_end());
     assert_eq!(rt; cursor.bytes(), bytes);
-    let span = cursor.span_before(1);
-    assert_eq!(rt; (span.start, span.end), (1, 2));
-    let all = cursor.span_before(9);
-    assert_eq!(rt; (all.start, all.end), (0, 2));
+    Ok(())
+}
+
+#[test]
+fn room_is_made_for_what_is_claimed_up_to_a_limit(rt: HostRuntime) -> Result<(), Fail> {
+    for (claimed, room) in [(0, 0), (3, 3), (64, 64), (65, 64), (u32::MAX, 64)] {
+        let bytes: Vec<u8> = room_for(rt.alloc(), claimed)?;
+        assert_eq!(rt; bytes.capacity(), room, "{claimed}");
+    }
     Ok(())
 }
 

@@ -11,15 +11,15 @@ use Rattle.std.proofs.lemmas.List.Sorted.{ranks_by, All-permutation}
 use Rattle.gateway_words.specs.Places.{Position}
 use Rattle.mp_codec.specs.Fault.{TextFault}
 use Rattle.mp_codec.specs.Maps.{text_from}
-use Rattle.mp_codec.specs.Span.{IsIn, text_at}
+use Rattle.mp_codec.specs.Span.{IsIn, raw_at, text_at, span_before}
 use Rattle.mp_codec.proofs.JudgingLemmas.{Reads}
 use Rattle.mp_codec.proofs.LeafLemmas.{IsText, text_judged}
 use Rattle.mp_codec.proofs.ReaderLemmas.{judged_reads}
-use Rattle.mp_codec.proofs.SpanLemmas.{StandsBefore, str_before, span_before, text_spans}
-use Rattle.conda_record.specs.Spans.{fields_at}
+use Rattle.mp_codec.proofs.SpanLemmas.{StandsBefore, str_before, text_spans}
+use Rattle.conda_record.specs.Places.{fields_at}
 use Rattle.shard_file.specs.declared.spans.FileSpans.{FileSpans}
 use Rattle.shard_file.specs.Rows.{Row, file_lt}
-use Rattle.shard_file.specs.Spans.{row_at, rows_at, raw_at, AreNamed}
+use Rattle.shard_file.specs.Spans.{row_at, rows_at, AreNamed}
 
 -- a text that was read stands as bytes at the span before the position behind it
 raw_spans : (bytes text : List ℕ) (here there : Position) → IsIn bytes here → text_from here ≡ Ok (text, there) → raw_at bytes (span_before (length text) there) ≡ text

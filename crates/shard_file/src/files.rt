@@ -1,10 +1,10 @@
 //! Reading a map of files, each once.
 
-ghost use Rattle.std.specs.Prelude.{◌≡◌, ◌||◌, IfOk, OnOk, [], List, ℕ};
+ghost use Rattle.std.specs.Prelude.{◌≡◌, ◌||◌, length, IfOk, OnOk, [], List, ℕ};
 ghost use Rattle.std.specs.Str.{bytes_eq};
 ghost use Rattle.gateway_words.specs.Reading.{Gives};
 ghost use Rattle.conda_record.specs.Reading.{fault_of};
-ghost use Rattle.mp_codec.specs.Span.{IsIn};
+ghost use Rattle.mp_codec.specs.Span.{IsIn, span_before};
 ghost use Rattle.shard_file.specs.Spans.{rows_at, AreNamed};
 ghost use Rattle.shard_file.specs.Names.{has_name, new_name_from, AreRising};
 ghost use Rattle.shard_file.specs.Reading.{files_after, files_from};
@@ -12,11 +12,8 @@ ghost use Rattle.shard_file.specs.Reading.{files_after, files_from};
 use crate::names::Names;
 use crate::spans::FileSpans;
 use conda_record::{RecordRefusal, RecordSpans};
-use mp_codec::{Cursor, FaultKind, FormatFault};
+use mp_codec::{Cursor, FaultKind, FormatFault, Span, room_for};
 use std::alloc::Global;
-
-// For so many rows memory is taken before they are read, since their number is only claimed.
-const MOST_AT_ONCE: usize = 64;
 
 // The rows of the map of files that stands at the cursor.
 #[tactic(auto, unfolding(mp_codec::specs::Maps::map_from, crate::specs::Reading::files_from))]
@@ -27,7 +24,7 @@ pub(crate) fn files(
 ) -> Result<Vec<FileSpans>, RecordRefusal>
     ghost bytes: { List ℕ }
     requires { IsIn bytes cur.old }
-    ensures within { IsIn bytes cur.new }
+    ensures within { OnOk result (IsIn bytes cur.new) }
     ensures exact { Gives (λ rows. (rows_at bytes rows.items, cur.new)) fault_of result
         (files_from conda cur.old) }
     ensures named { IfOk result (λ rows. AreNamed bytes rows.items) }
@@ -45,44 +42,39 @@ fn rows_of_files(
 ) -> Result<Vec<FileSpans>, RecordRefusal>
     ghost bytes: { List ℕ }
     requires { IsIn bytes cur.old }
-    ensures within { IsIn bytes cur.new }
+    ensures within { OnOk result (IsIn bytes cur.new) }
     ensures exact { Gives (λ rows. (rows_at bytes rows.items, cur.new)) fault_of result
         (files_after conda files [] cur.old) }
     ensures named { IfOk result (λ rows. AreNamed bytes rows.items) }
 {
-    let most = (files as usize).min(MOST_AT_ONCE);
-    let mut rows = Vec::with_capacity(alloc, most)?;
-    let mut names = Names::new(alloc, most)?;
+    let mut rows = room_for(alloc, files)?;
+    let mut names = Names::new(alloc, files)?;
     for _ in 0..files {
-        let name = new_name(cur, &mut names)?;
-        let row = FileSpans {
-            file: cur.span_before(name.len()),
-            conda,
-            value: RecordSpans::read(alloc, cur)?,
-        };
-        rows.push(row)?;
+        let (_, file) = new_name(cur, &mut names)?;
+        let value = RecordSpans::read(alloc, cur)?;
+        rows.push(FileSpans { file, conda, value })?;
     }
     Ok(rows)
 }
 
-// The text that stands at the cursor, which is none of the names so far.
+// The text that stands at the cursor, which is none of the names so far, and where it stands.
 #[tactic(auto, unfolding(crate::specs::Names::new_name_from))]
-fn new_name<'a>(cur: &mut Cursor<'a>, names: &mut Names<'a>) -> Result<&'a str, RecordRefusal>
+fn new_name<'a>(
+    cur: &mut Cursor<'a>,
+    names: &mut Names<'a>,
+) -> Result<(&'a str, Span), RecordRefusal>
     requires { AreRising names.old }
-    ensures within { (bytes : List ℕ) → IsIn bytes cur.old → IsIn bytes cur.new }
-    ensures exact { Gives (λ name. (name.now, cur.new)) fault_of result
+    ensures place { IfOk result (λ name. name.1 ≡ span_before (length name.0.now) cur.new) }
+    ensures exact { Gives (λ name. (name.0.now, cur.new)) fault_of result
         (new_name_from (has_name names.old) cur.old) }
     ensures more { IfOk result (λ name. (q : List ℕ) → has_name names.new q
-        ≡ (bytes_eq name.now q || has_name names.old q)) }
+        ≡ (bytes_eq name.0.now q || has_name names.old q)) }
     ensures rising { OnOk result (AreRising names.new) }
 {
     let at = cur.at();
-    let name = cur.text()?;
+    let (name, file) = cur.placed_text()?;
     if !names.add(name)? {
-        return Err(RecordRefusal::Fault(FormatFault {
-            at: at as u64,
-            kind: FaultKind::Repeated,
-        }));
+        return Err(FormatFault::new(at, FaultKind::Repeated).into());
     }
-    Ok(name)
+    Ok((name, file))
 }

@@ -4,6 +4,7 @@ ghost use Rattle.std.specs.Prelude.{◌≡◌, ◌||◌, not, IsTrue, IfOk, OnOk
 ghost use Rattle.std.specs.Str.{bytes_eq};
 ghost use Rattle.shard_file.specs.Names.{has_name, is_among, AreRising, IsRising, IsBehind};
 
+use mp_codec::room_for;
 use std::alloc::{AllocError, Global};
 use std::collections::BTreeSet;
 
@@ -16,13 +17,13 @@ pub(crate) struct Names<'a> {
 }
 
 impl<'a> Names<'a> {
-    // No names, with room for so many.
-    pub(crate) fn new(alloc: Global, most: usize) -> Result<Names<'a>, AllocError>
+    // No names, with room for as many as a head claims, within reason.
+    pub(crate) fn new(alloc: Global, claimed: u32) -> Result<Names<'a>, AllocError>
         ensures none { IfOk result (λ names. (q : List ℕ) → has_name names q ≡ false) }
         ensures rising { IfOk result AreRising }
     {
         Ok(Names {
-            rising: Vec::with_capacity(alloc, most)?,
+            rising: room_for(alloc, claimed)?,
             others: BTreeSet::new(alloc),
         })
     }

@@ -93,7 +93,7 @@ impl Found {
         ghost bytes: { List ℕ }
         requires within { IsIn bytes cur.old }
         requires named { IsNamed bytes self.old }
-        ensures within { IsIn bytes cur.new }
+        ensures within { OnOk result (IsIn bytes cur.new) }
         ensures exact { Gives (λ _. (known bytes self.new, cur.new)) fault_of result
             (known_value_from shard_keys member_from (known bytes self.old) (place key) cur.old) }
         ensures named { OnOk result (IsNamed bytes self.new) }
@@ -134,17 +134,14 @@ impl Found {
 fn next_key(cur: &mut Cursor<'_>, found: &Found) -> Result<Key, FormatFault>
     ghost bytes: { List ℕ }
     requires { IsIn bytes cur.old }
-    ensures within { IsIn bytes cur.new }
+    ensures within { OnOk result (IsIn bytes cur.new) }
     ensures exact { Advances place cur.new result
         (known_key_from shard_keys (known bytes found.now) cur.old) }
 {
     let at = cur.at();
     let key = key_of(cur.str_or_skip()?);
     if found.has(key) {
-        return Err(FormatFault {
-            at: at as u64,
-            kind: FaultKind::Repeated,
-        });
+        return Err(FormatFault::new(at, FaultKind::Repeated));
     }
     Ok(key)
 }
@@ -202,10 +199,7 @@ fn rows(alloc: Global, bytes: &[u8]) -> Result<Vec<FileSpans>, RecordRefusal>
     let mut cur = Cursor::new(bytes);
     let rows = shard_here(alloc, &mut cur)?;
     if !cur.is_end() {
-        return Err(RecordRefusal::Fault(FormatFault {
-            at: cur.at() as u64,
-            kind: FaultKind::Trailing,
-        }));
+        return Err(FormatFault::new(cur.at(), FaultKind::Trailing).into());
     }
     Ok(rows)
 }

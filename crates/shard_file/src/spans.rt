@@ -1,7 +1,8 @@
 //! A row of a shard as places in its bytes.
 
 ghost use Rattle.std.specs.Prelude.{◌≡◌};
-ghost use Rattle.shard_file.specs.Spans.{raw_at, row_at};
+ghost use Rattle.mp_codec.specs.Span.{raw_at};
+ghost use Rattle.shard_file.specs.Spans.{row_at};
 ghost use Rattle.shard_file.specs.Seen.{row_seen};
 
 use crate::shard::ShardRow;
@@ -22,7 +23,7 @@ impl FileSpans {
     pub(crate) fn name<'a>(&self, bytes: &'a [u8]) -> &'a [u8]
         ensures { result.now ≡ raw_at bytes.now self.now.file }
     {
-        match bytes.get(self.file.start..self.file.end) {
+        match self.file.part(bytes) {
             Some(name) => name,
             None => &[],
         }

@@ -2,8 +2,9 @@
 
 use crate::refusal::ShardRefusal;
 use crate::shard::{FileRecord, Shard};
+use crate::spans::FileSpans;
 use crate::writing::{can_write_shard, write_shard};
-use conda_record::PackageRecord;
+use conda_record::{Field, PackageRecord, RecordView};
 use mp_codec::FaultKind::{self, Missing, NotText, Repeated, Reserved, Short, Trailing, Wrong};
 use mp_codec::{Cursor, Text};
 use std::alloc::Global;
@@ -20,6 +21,11 @@ const EMPTY: &[u8] = b"\x83\xa8packages\x80\xaepackages.conda\x80\xa7removed\x90
 // A shard with one file.
 const ONE_FILE: &[u8] = b"\x81\xaepackages.conda\x81\xaba-1-0.conda\
     \x83\xa4name\xa1a\xa7version\xa11\xa5build\xa10";
+
+// A shard with one file, whose record has each key that is text.
+const ALL_TEXTS: &[u8] = b"\x81\xa8packages\x81\xa9a.tar.bz2\
+    \x88\xa6noarch\xa0\xa7depends\x92\xa1b\xa5c <\xc3\xa9\xaaconstrains\x91\xa0\xa5build\xa0\
+    \xa7version\xa31.0\xa4name\xd9\x01a\xa6subdir\xa6noarch\xa7license\xa3MIT";
 
 // A shard, the kind of its first fault, and the place.
 const FAULTS: [(&[u8], FaultKind, u64); 52] = [
@@ -300,6 +306,53 @@ fn reads_a_file(rt: HostRuntime) -> Result<(), Fail> {
     let shard = read(rt.alloc(), &[ONE_FILE])?;
     assert!(rt; has_rows(&shard, &[("a-1-0.conda", true, "a")]));
     assert_eq!(rt; shard.bytes(), ONE_FILE);
+    Ok(())
+}
+
+// Whether the text stands in the bytes from the first place on and up to the second.
+fn stands_at(bytes: &[u8], place: Option<(usize, usize)>, text: Option<&str>) -> bool {
+    match place {
+        Some((start, end)) => {
+            text.is_some() && bytes.get(start..end) == text.map(|text| text.as_bytes())
+        }
+        None => text.is_none(),
+    }
+}
+
+// Whether the required texts stand where the record's spans say.
+fn has_required_spans(bytes: &[u8], row: &FileSpans, view: RecordView<'_>) -> bool {
+    stands_at(bytes, row.value.span(Field::Name), Some(view.name()))
+        && stands_at(bytes, row.value.span(Field::Version), Some(view.version()))
+        && stands_at(bytes, row.value.span(Field::Build), Some(view.build()))
+}
+
+// Whether the optional texts stand where the record's spans say.
+fn has_optional_spans(bytes: &[u8], row: &FileSpans, view: RecordView<'_>) -> bool {
+    stands_at(bytes, row.value.span(Field::Subdir), view.subdir())
+        && stands_at(bytes, row.value.span(Field::License), view.license())
+        && stands_at(bytes, row.value.span(Field::Noarch), view.noarch())
+}
+
+// Whether the text at this place of each list stands where the record's spans say.
+fn has_listed_spans(bytes: &[u8], row: &FileSpans, view: RecordView<'_>, i: usize) -> bool {
+    stands_at(bytes, row.value.span(Field::Depend(i)), view.depend(i))
+        && stands_at(bytes, row.value.span(Field::Constrain(i)), view.constrain(i))
+}
+
+#[test]
+fn each_text_stands_at_its_span(rt: HostRuntime) -> Result<(), Fail> {
+    for bytes in [ONE_FILE, WRITTEN[1].1, WRITTEN[2].1, ALL_TEXTS] {
+        let shard = read(rt.alloc(), &[bytes])?;
+        assert!(rt; shard.len() > 0, "{bytes:?}");
+        for row in &shard.rows {
+            let view = row.shown(bytes).view;
+            assert!(rt; has_required_spans(bytes, row, view), "{bytes:?}");
+            assert!(rt; has_optional_spans(bytes, row, view), "{bytes:?}");
+            for i in 0..3 {
+                assert!(rt; has_listed_spans(bytes, row, view, i), "{bytes:?} {i}");
+            }
+        }
+    }
     Ok(())
 }
 

@@ -1,13 +1,8 @@
-use Rattle.std.proofs.Common.{ap}
-use Rattle.conda_record.specs.Writing.{record_bytes}
 use Rattle.conda_record.proofs.WrittenLemmas.{read_again, same_fields, shortest_record}
 use Rattle.conda_record.proofs.laws.a_written_record_is_read.Goals as goal
 
 pub returns-clause-read : goal.returns-clause-read
 returns-clause-read c = read_again
-
-pub returns-clause-equal : goal.returns-clause-equal
-returns-clause-equal c = λ f g e. ap record_bytes e
 
 pub returns-clause-apart : goal.returns-clause-apart
 returns-clause-apart c = same_fields

@@ -5,9 +5,6 @@ use Rattle.shard_file.specs.Spans.{rows_at, AreNamed}
 use Rattle.shard_file.specs.Reading.{has_file, files_after}
 use Rattle.shard_file.proofs.files.rows_of_files.Given as goal
 
-abbrev pub ghost-read : goal.ghost-read
-ghost-read g a = g.bytes
-
 -- the files that are left, behind the rows so far, give what all of them give, the names met are those of the rows, those
 -- that rose rise, the cursor stays in the bytes, and names are text
 abbrev pub invariant-loop : goal.invariant-loop

@@ -1,4 +1,4 @@
-use Rattle.std.proofs.Common.{◌≡◌, sym, ◌∙◌, ap}
+use Rattle.std.proofs.Common.{◌≡◌, sym, ◌∙◌, ap, List, ℕ}
 use Rattle.std.specs.Prelude.{Result, Ok, Err}
 use Rattle.std.proofs.lemmas.Result.{err_from_is_err_and}
 use Rattle.gateway_words.specs.Places.{Position}
@@ -7,28 +7,47 @@ use Rattle.mp_codec.specs.Fault.{IsFirstFault, WithBreaks}
 use Rattle.mp_codec.proofs.HeadLemmas.{ok_first, ok_second}
 use Rattle.conda_record.specs.Record.{Fields, RecordFault}
 use Rattle.conda_record.specs.Reading.{record_from}
+use Rattle.conda_record.specs.Placing.{places_from}
 use Rattle.conda_record.proofs.RecordLemmas.{record_found, record_first, record_at_read}
+use Rattle.conda_record.proofs.PlacesLemmas.{record_at_places, fault_at_places}
 use Rattle.conda_record.proofs.RefusalLemmas.{fault_along, only_memory}
 use Rattle.conda_record.proofs.record.PackageRecord.read.Goals as goal
+
+pub returns-in_err-spans-clause-exact : goal.returns-in_err-spans-clause-exact
+returns-in_err-spans-clause-exact c =
+    let p = err_from_is_err_and c.from_residual.result c.from_residual.ensures.1 in
+    rw (p.1, p.2) (fault_along c.in_err-spans.field-0.0 _ (λ (f : FormatFault). record_from c.args.cur.now ≡ Err f)
+    (λ f e. fault_at_places c.args.cur.now f (ap places_from (sym c.copy-ahead.ensures.same) ∙ e)) c.in_err-spans.ensures.exact)
 
 pub returns-in_err-spans-clause-only : goal.returns-in_err-spans-clause-only
 returns-in_err-spans-clause-only c =
     let p = err_from_is_err_and c.from_residual.result c.from_residual.ensures.1 in
-    λ fields there a. rw (p.1, p.2) (only_memory c.in_err-spans.field-0.0 (record_from c.copy-ahead.result) (fields, there) c.in_err-spans.ensures (ap record_from c.copy-ahead.ensures.same ∙ record_at_read c.args.cur.now there fields a))
+    λ fields there a. rw (p.1, p.2) (only_memory c.in_err-spans.field-0.0 (record_from c.args.cur.now) (fields, there)
+    (fault_along c.in_err-spans.field-0.0 _ (λ (f : FormatFault). record_from c.args.cur.now ≡ Err f) (λ f e. fault_at_places c.args.cur.now f (ap places_from (sym c.copy-ahead.ensures.same) ∙ e)) c.in_err-spans.ensures.exact)
+    (record_at_read c.args.cur.now there fields a))
 
 pub returns-in_err-spans-clause-fault : goal.returns-in_err-spans-clause-fault
 returns-in_err-spans-clause-fault c =
     let p = err_from_is_err_and c.from_residual.result c.from_residual.ensures.1 in
-    rw (p.1, p.2) (fault_along c.in_err-spans.field-0.0 (λ f. record_from c.copy-ahead.result ≡ Err f) (λ f. IsFirstFault (WithBreaks RecordFault c.args.cur.now) f)
-    (λ f e. record_first c.args.cur.now f (ap record_from (sym c.copy-ahead.ensures.same) ∙ e)) c.in_err-spans.ensures)
+    rw (p.1, p.2) (fault_along c.in_err-spans.field-0.0 _ (λ (f : FormatFault). IsFirstFault (WithBreaks RecordFault c.args.cur.now) f)
+    (λ f e. record_first c.args.cur.now f (fault_at_places c.args.cur.now f (ap places_from (sym c.copy-ahead.ensures.same) ∙ e))) c.in_err-spans.ensures.exact)
+
+pub returns-clause-exact : goal.returns-clause-exact
+returns-clause-exact c =
+    let places : places_from c.args.cur.now ≡ Ok (c.in_ok-spans.spans, c.read.new.cur) = ap places_from (sym c.copy-ahead.ensures.same) ∙ c.in_ok-spans.ensures.exact in
+    record_at_places c.bytes.result.now c.args.cur.now c.read.new.cur c.in_ok-spans.spans c.bytes.ensures places
+    ∙ ap (λ (f : Fields). Ok (f, c.read.new.cur)) (sym (c.in_ok-record.ensures ∙ c.view.ensures.exact))
 
 pub returns-clause-found : goal.returns-clause-found
 returns-clause-found c =
-    record_found c.args.cur.now c.spans_in.new.cur c.in_ok-record.record
-    (ap record_from (sym c.copy-ahead.ensures.same) ∙ c.in_ok-spans.ensures ∙ ap (λ (f : Fields). Ok (f, c.spans_in.new.cur)) (sym (c.in_ok-record.ensures ∙ c.view.ensures)))
+    record_found c.args.cur.now c.read.new.cur c.in_ok-record.record
+    (record_at_places c.bytes.result.now c.args.cur.now c.read.new.cur c.in_ok-spans.spans c.bytes.ensures (ap places_from (sym c.copy-ahead.ensures.same) ∙ c.in_ok-spans.ensures.exact)
+    ∙ ap (λ (f : Fields). Ok (f, c.read.new.cur)) (sym (c.in_ok-record.ensures ∙ c.view.ensures.exact)))
 
 pub returns-clause-only : goal.returns-clause-only
 returns-clause-only c = λ fields there a.
-    let both : ◌≡◌ {A = Result (Fields × Position) FormatFault} (Ok (c.in_ok-record.record, c.spans_in.new.cur)) (Ok (fields, there)) =
-    ap (λ (f : Fields). Ok (f, c.spans_in.new.cur)) (c.in_ok-record.ensures ∙ c.view.ensures) ∙ sym c.in_ok-spans.ensures ∙ ap record_from c.copy-ahead.ensures.same ∙ record_at_read c.args.cur.now there fields a in
+    let read : record_from c.args.cur.now ≡ Ok (c.in_ok-record.record, c.read.new.cur) =
+    record_at_places c.bytes.result.now c.args.cur.now c.read.new.cur c.in_ok-spans.spans c.bytes.ensures (ap places_from (sym c.copy-ahead.ensures.same) ∙ c.in_ok-spans.ensures.exact)
+    ∙ ap (λ (f : Fields). Ok (f, c.read.new.cur)) (sym (c.in_ok-record.ensures ∙ c.view.ensures.exact)) in
+    let both : ◌≡◌ {A = Result (Fields × Position) FormatFault} (Ok (c.in_ok-record.record, c.read.new.cur)) (Ok (fields, there)) = sym read ∙ record_at_read c.args.cur.now there fields a in
     (ok_first both, ok_second both)
