@@ -8,9 +8,12 @@ use Rattle.conda_version.specs.declared.fault.ConstraintFault.{ConstraintFault}
 use Rattle.conda_version.specs.declared.fault.ConstraintFault.TheVariants as fault
 use Rattle.conda_version.specs.declared.fault.ConstraintRefusal.{ConstraintRefusal}
 use Rattle.conda_version.specs.declared.fault.ConstraintRefusal.TheVariants as refusal
-use Rattle.conda_version.specs.declared.level.TheConstants.{LEVELS}
 
 -- ---- the faults that stand in a text
+
+-- how many levels of parentheses a constraint may have
+abbrev pub most_levels : ℕ
+most_levels = 64
 
 -- a fault, where something is so
 abbrev pub if_so : Bool → ConstraintFault → List ConstraintFault
@@ -33,7 +36,7 @@ leaf_faults at (Err f) = shifted at f ∷ []
 -- the faults that stand at a token: whether an item stands right before it, and how many `(` are open
 abbrev pub faults_here : Bool → ℕ → ℕ → Token → List ConstraintFault
 faults_here item depth at (leaf text) = if_so item (fault.Paren at) ++ leaf_faults at (leaf_of text)
-faults_here item depth at left = if_so (item || nat_le LEVELS depth) (fault.Paren at)
+faults_here item depth at left = if_so (item || nat_le most_levels depth) (fault.Paren at)
 faults_here item depth at right = if_so (not item) (fault.Empty at) ++ if_so (depth == 0) (fault.Paren at)
 faults_here item depth at and = if_so (not item) (fault.Empty at)
 faults_here item depth at or = if_so (not item) (fault.Empty at)

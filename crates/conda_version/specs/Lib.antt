@@ -3,6 +3,8 @@ pub mod Version
 pub mod Grammar
 pub mod Order
 pub mod OrderLaws
+pub mod Operator
+pub mod Relation
 pub mod Leaf
 pub mod Token
 pub mod Constraint
