@@ -1,11 +1,12 @@
 -- Sound tokens are those that spell a tree, and what they say is what the tree says.
 use Rattle.std.proofs.Common.{◌≡◌, ◌+◌, ◌-◌, ◌<◌, ◌≤◌, ℕ, zero, suc, List, [], ◌∷◌, ◌++◌, Bool, true, false, length, append_assoc, length-append, refl, sym, ap, ◌∙◌, arith, inl, inr, subst}
-use Rattle.std.specs.Prelude.{◌⊎◌, ◌&&◌, ◌||◌, Result, None}
+use Rattle.std.specs.Prelude.{◌⊎◌, ◌↔◌, ◌&&◌, ◌||◌, IsTrue, Result, None}
 use Rattle.std.proofs.lemmas.List.{append-nil}
-use Rattle.conda_version.specs.Allowing.{Group, allowed_by, answer, answer_of, fresh, groups_after, signs_of}
+use Rattle.conda_version.specs.Allowing.{Group, allowed_by, allows, answer, answer_of, fresh, groups_after, signs_of}
 use Rattle.conda_version.specs.Constraint.{constraint_fault, most_levels}
+use Rattle.conda_version.specs.Grammar.{version_of}
 use Rattle.conda_version.specs.Token.{Token, and, leaf, left, or, right}
-use Rattle.conda_version.specs.Tree.{All, AllReads, Any, AnyReads, HasTree, IsTreeOf, Item, ItemReads, all_depth, all_holds, any_depth, any_holds, both, either, group, item_depth, item_holds, one, plain, single, spell_all, spell_any, spell_item}
+use Rattle.conda_version.specs.Tree.{All, AllReads, Allows, Any, AnyReads, HasTree, IsTreeOf, Item, ItemReads, all_depth, all_holds, any_depth, any_holds, both, either, group, item_depth, item_holds, one, plain, single, spell_all, spell_any, spell_item}
 use Rattle.conda_version.specs.Version.{Value}
 use Rattle.conda_version.specs.declared.fault.VersionFault.{VersionFault}
 use Rattle.conda_version.proofs.SoundLemmas.{Sound, no-fault-sound, sound-no-fault}
@@ -234,3 +235,21 @@ module _ (version : Result Value VersionFault) where
       ∙ (λ k. answer_of (groups_after version (fresh ∷ []) (sym (append-nil (spell_any tree)) k)))
       ∙ ap answer_of (says-any tree false [] [])
       ∙ answer-any tree false
+
+-- both as texts
+pub allows-tree : (text version : List ℕ) (tree : Any) → IsTreeOf text tree → allows text version ≡ any_holds (version_of version) tree
+unfolding allows
+allows-tree text version tree is = allowed-tree (version_of version) text tree is
+
+-- a constraint allows what the tree that it has says
+pub allows-means : (text version : List ℕ) → constraint_fault text ≡ None → IsTrue (allows text version) ↔ Allows text version
+allows-means text version e = (
+  λ h. (let t = no-fault-tree text e in record { tree = t.0; spelled = t.1; says = sym (allows-tree text version t.0 t.1) ∙ h }),
+  λ a. allows-tree text version a.tree a.spelled ∙ a.says,
+)
+
+-- so does what the code answers
+pub allows-answer : (result : Bool) (text version : List ℕ) → constraint_fault text ≡ None → result ≡ allows text version → IsTrue result ↔ Allows text version
+allows-answer result text version e is =
+    let m = allows-means text version e in
+    (λ h. m.0 (sym is ∙ h), λ a. is ∙ m.1 a)

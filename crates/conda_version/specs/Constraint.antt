@@ -79,17 +79,17 @@ place_of (fault.Version at) = at
 place_of (fault.Paren at) = at
 place_of (fault.Star at) = at
 
--- the number of a fault, which decides at one place
-abbrev pub number_of : ConstraintFault → ℕ
-number_of (fault.Empty at) = 1
-number_of (fault.Operator at) = 2
-number_of (fault.Version at) = 3
-number_of (fault.Paren at) = 4
-number_of (fault.Star at) = 5
+-- the number of a fault in print, which decides at one place
+abbrev pub constraint_fault_number : ConstraintFault → ℕ
+constraint_fault_number (fault.Empty at) = 1
+constraint_fault_number (fault.Operator at) = 2
+constraint_fault_number (fault.Version at) = 3
+constraint_fault_number (fault.Paren at) = 4
+constraint_fault_number (fault.Star at) = 5
 
 -- whether g comes before f: at an earlier place, or at the same one with a lower number
 abbrev pub comes_before : ConstraintFault → ConstraintFault → Bool
-comes_before g f = nat_lt (place_of g) (place_of f) || (place_of g == place_of f && nat_lt (number_of g) (number_of f))
+comes_before g f = nat_lt (place_of g) (place_of f) || (place_of g == place_of f && nat_lt (constraint_fault_number g) (constraint_fault_number f))
 
 -- f stands among some faults
 abbrev pub StandsIn : List ConstraintFault → ConstraintFault → Type 0

@@ -1,6 +1,8 @@
 pub mod Text
 pub mod Version
 pub mod Grammar
+pub mod Runs
+pub mod Blanks
 pub mod Order
 pub mod OrderLaws
 pub mod Operator

@@ -145,7 +145,8 @@ impl<'a> LeafTest<'a> {
 
     // Whether a version stands in the relation to another one.
     fn relates(relation: Relation, version: Version<'_>, other: Version<'_>) -> bool
-        ensures { result ≡ relates (relation_in relation) (meaning version.entry) (meaning other.entry) }
+        ensures { result
+            ≡ relates (relation_in relation) (meaning version.entry) (meaning other.entry) }
     {
         match relation {
             Relation::Equal => version.compare(other).is_eq(),
