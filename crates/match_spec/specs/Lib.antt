@@ -1,7 +1,9 @@
 pub mod Signs
 pub mod Passage
 pub mod StarBuild
+pub mod Comparison
 pub mod Number
+pub mod Key
 pub mod Parts
 pub mod Bracket
 pub mod Kept

@@ -34,7 +34,7 @@ impl Spec {
     ghost use Rattle.conda_record.specs.View.{seen};
     ghost use Rattle.match_spec.specs.Matching.{Matches, matches};
     ghost use Rattle.match_spec.specs.Reading.{fault_of, spec_of, with_bracket};
-    ghost use Rattle.match_spec.specs.Passage.{passage_there};
+    ghost use Rattle.match_spec.specs.Seen.{passage_there};
 
     /// The spec that a text spells.
     ///
