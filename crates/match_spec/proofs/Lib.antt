@@ -5,3 +5,4 @@ pub mod StarLemmas
 pub mod AsciiLemmas
 pub mod MatchLemmas
 pub mod TextLemmas
+pub mod LegalLemmas

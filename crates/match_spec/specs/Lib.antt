@@ -8,6 +8,7 @@ pub mod Parts
 pub mod Bracket
 pub mod Kept
 pub mod Reading
+pub mod Legal
 pub mod Matching
 pub mod Seen
 pub use Rattle.gateway_words.specs.Ascii
@@ -20,3 +21,4 @@ pub use Rattle.conda_version.specs.Allowing
 pub use Rattle.conda_version.specs.Constraint
 pub use Rattle.conda_version.specs.Leaf
 pub use Rattle.conda_version.specs.Text
+pub use Rattle.conda_version.specs.Tree
