@@ -6,3 +6,4 @@ pub mod AsciiLemmas
 pub mod MatchLemmas
 pub mod TextLemmas
 pub mod LegalLemmas
+pub mod CanonicalLemmas

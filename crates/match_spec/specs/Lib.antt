@@ -9,6 +9,7 @@ pub mod Bracket
 pub mod Kept
 pub mod Reading
 pub mod Legal
+pub mod Canonical
 pub mod Matching
 pub mod Seen
 pub use Rattle.gateway_words.specs.Ascii
