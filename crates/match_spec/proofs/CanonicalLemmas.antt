@@ -1,9 +1,9 @@
 -- What is spelled in canonical form is read as it.
-use Rattle.std.proofs.Common.{◌≡◌, ◌∙◌, ◌<◌, ◌≤◌, ◌^◌, ◌+◌, ◌-◌, ◌==◌, ℕ, zero, suc, List, [], ◌∷◌, ◌++◌, Bool, true, false, length, take, drop, reverse, append_assoc, length-append, refl, sym, ap, arith, rules, inl, inr, subst}
-use Rattle.std.specs.Prelude.{◌&&◌, ◌||◌, not, nat_lt, codes, map, position, is_some, Option, Some, None, Result, Ok, Err, if◌then◌else◌}
+use Rattle.std.proofs.Common.{◌≡◌, ◌∙◌, ◌<◌, ◌^◌, ◌+◌, ◌-◌, ◌==◌, ℕ, zero, suc, List, [], ◌∷◌, ◌++◌, Bool, true, false, length, take, drop, reverse, append_assoc, length-append, refl, sym, ap, arith, rules, inl, inr, subst}
+use Rattle.std.specs.Prelude.{nat_lt, map, position, is_some, Option, Some, None, Result, Ok, Err, if◌then◌else◌}
 use Rattle.std.specs.Char.{is_ascii_digit}
 use Rattle.std.specs.Fmt.{decimal}
-use Rattle.std.specs.List.{join_with_byte, list_all, list_any, position_or_len, take_while}
+use Rattle.std.specs.List.{join_with_byte, list_all, list_any, position_or_len}
 use Rattle.std.specs.Option.{ForSome, option_map}
 use Rattle.std.specs.Result.{result_ok}
 use Rattle.std.proofs.Math.Seq.{drop-append_seam, take-append_seam}
@@ -13,18 +13,18 @@ use Rattle.std.proofs.lemmas.Fmt.{decimal_nonempty, digits_decimal, digits_value
 use Rattle.std.proofs.lemmas.List.{append-nil, reverse-append, reverse-reverse}
 use Rattle.std.proofs.lemmas.List.Sums.{take_while-cons}
 use Rattle.std.proofs.lemmas.Str.Parse.{IsNumeralModel, numerals_by_fold}
-use Rattle.hex.specs.Hex.{IsBytes, decode_sized, encode_lower}
+use Rattle.hex.specs.Hex.{IsBytes, encode_lower}
 use Rattle.hex.proofs.HexLemmas.{decode_sized-encode_lower}
 use Rattle.gateway_words.specs.Ascii.{colon, comma, equals_sign, space}
 use Rattle.gateway_words.specs.Reading.{◌>>=◌}
 use Rattle.conda_name.specs.Dependency.{name_run}
-use Rattle.conda_name.specs.Name.{IsName, first_wrong, is_name_byte, lower_case, name_of, name_unless}
+use Rattle.conda_name.specs.Name.{IsName, first_wrong, is_name_byte, lower_case, name_unless}
 use Rattle.conda_name.specs.declared.name.NameRefusal.{NameRefusal}
 use Rattle.conda_name.proofs.NameLemmas.{AreNameBytes, right-all}
 use Rattle.conda_version.specs.Constraint.{constraint_fault, unless_fault}
 use Rattle.conda_version.specs.Leaf.{behind_signs, is_sign, sign_len, signs, turned_round}
 use Rattle.conda_version.specs.Text.{begins_at, drop_blanks, is_nil, skip_blanks}
-use Rattle.match_spec.specs.Bracket.{Entry, Halves, Value, bare, ends_key, entries, entries_within, entry_by, entry_of, halves_by, halves_of, inside_of, is_equals_at, open_quote, open_value, quoted, quoted_entry, unclosed, unless_open, valued_entry}
+use Rattle.match_spec.specs.Bracket.{Entry, Halves, Value, ends_key, entries, entries_within, entry_by, entry_of, halves_by, halves_of, is_equals_at, open_quote, quoted, quoted_entry, unless_open, valued_entry}
 use Rattle.match_spec.specs.Canonical.{Pair, canonical, comparison_text, has_canonical, is_unquoted, key_text, number_text, pair_of, pair_text, pairs_of}
 use Rattle.match_spec.specs.Comparison.{Comparison}
 use Rattle.match_spec.specs.Comparison as comparison
@@ -33,8 +33,8 @@ use Rattle.match_spec.specs.Key as key
 use Rattle.match_spec.specs.Legal.{IsSpec}
 use Rattle.match_spec.specs.Number.{NumberTest, comparison_of, decimal_from, number_of, number_test, test_by}
 use Rattle.match_spec.specs.Parts.{Meaning, Parts, no_parts, part_or, replaced}
-use Rattle.match_spec.specs.Passage.{Passage, begun, behind, behind_by, beyond, ended, front, front_by, trimmed, until}
-use Rattle.match_spec.specs.Reading.{Read, before_colons, behind_colons, bracket_of, build_or, constraint_or, digest_or, has, is_build, key_of, may_follow, named, named_before, named_by, new_key, or_fault, outside_by, outside_of, spec_in, spec_of, text_or, unless_refused, with_bracket, with_cut_value, with_entries, with_entry, with_pair, with_rest, with_value}
+use Rattle.match_spec.specs.Passage.{Passage, begun, behind, behind_by, beyond, front, front_by, trimmed, until}
+use Rattle.match_spec.specs.Reading.{Read, behind_colons, bracket_of, build_or, constraint_or, digest_or, has, is_build, key_of, named, named_before, named_by, new_key, or_fault, outside_by, outside_of, spec_in, spec_of, text_or, unless_refused, with_bracket, with_cut_value, with_entries, with_entry, with_pair, with_rest, with_value}
 use Rattle.match_spec.specs.Signs.{double_quote, left_bracket, right_bracket}
 use Rattle.match_spec.specs.declared.fault.SpecFault.{SpecFault}
 use Rattle.match_spec.specs.declared.fault.SpecFault.TheVariants as fault

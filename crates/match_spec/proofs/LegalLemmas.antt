@@ -1,6 +1,6 @@
 -- Each spec that is read is one whose parts are of their forms.
-use Rattle.std.proofs.Common.{◌≡◌, ◌∙◌, ◌<◌, ◌^◌, ◌+◌, ◌-◌, ◌*◌, ◌==◌, ℕ, List, [], ◌∷◌, Bool, true, false, length, refl, sym, ap, arith, subst}
-use Rattle.std.specs.Prelude.{◌&&◌, not, nat_lt, codes, position, is_some, drop, Option, Some, None, Result, Ok, Err, if◌then◌else◌}
+use Rattle.std.proofs.Common.{◌≡◌, ◌∙◌, ◌<◌, ◌^◌, ◌+◌, ◌==◌, ℕ, List, [], ◌∷◌, Bool, true, false, length, refl, sym, ap, arith, subst}
+use Rattle.std.specs.Prelude.{not, nat_lt, position, drop, Option, Some, None, Result, Ok, Err, if◌then◌else◌}
 use Rattle.std.specs.List.{list_all}
 use Rattle.std.specs.Char.{is_ascii_digit}
 use Rattle.std.specs.Option.{ForSome}
@@ -14,7 +14,7 @@ use Rattle.gateway_words.specs.Reading.{◌>>=◌}
 use Rattle.conda_name.specs.Dependency.{name_run}
 use Rattle.conda_name.specs.Name.{IsName, lower_case}
 use Rattle.conda_name.proofs.NameLemmas.{lower-name, run-all, all-right}
-use Rattle.conda_version.specs.Constraint.{constraint_fault, constraint_of, unless_fault}
+use Rattle.conda_version.specs.Constraint.{constraint_fault}
 use Rattle.conda_version.specs.Leaf.{before_last, behind_signs, signs}
 use Rattle.conda_version.specs.Text.{cut_at, is_nil, skip_blanks}
 use Rattle.conda_version.specs.declared.fault.ConstraintFault.{ConstraintFault}
@@ -27,7 +27,7 @@ use Rattle.match_spec.specs.Legal.{IsSpec}
 use Rattle.match_spec.specs.Number.{NumberTest, comparison_of, decimal_from, number_of, number_test, test_by}
 use Rattle.match_spec.specs.Parts.{Meaning, Parts, no_parts, part_or, replaced}
 use Rattle.match_spec.specs.Passage.{Passage, begun, behind, ended, trimmed}
-use Rattle.match_spec.specs.Reading.{Read, before_colons, bracket_of, build_or, constraint_or, digest_or, has, is_build, key_of, may_follow, named, named_before, named_by, new_key, or_fault, outside_by, outside_of, place_by, place_of, slot_of, spec_in, spec_of, text_or, unless_refused, with_both, with_bracket, with_build, with_cut_value, with_entries, with_entry, with_form, with_kept, with_pair, with_rest, with_two, with_value, with_version, with_words}
+use Rattle.match_spec.specs.Reading.{Read, before_colons, bracket_of, build_or, constraint_or, digest_or, is_build, key_of, may_follow, named, named_before, new_key, or_fault, outside_by, outside_of, place_by, place_of, slot_of, spec_of, text_or, with_both, with_bracket, with_build, with_cut_value, with_entries, with_entry, with_form, with_pair, with_rest, with_two, with_value, with_version, with_words}
 use Rattle.match_spec.specs.Signs.{slash}
 use Rattle.match_spec.specs.declared.fault.SpecFault.{SpecFault}
 use Rattle.match_spec.specs.declared.fault.SpecFault.TheVariants as fault
