@@ -20,7 +20,7 @@ use Rattle.conda_version.proofs.TokenLemmas.{sign-cases}
 -- ---- versions
 
 -- without its blanks a text is no longer
-skip-within : (t : List ℕ) → length (skip_blanks t) ≤ length t
+pub skip-within : (t : List ℕ) → length (skip_blanks t) ≤ length t
 skip-within [] = omega arith
 skip-within (b ∷ rest) = elim (cases_Bool (b == space)) [
   | inl blank ↦ rw blank (omega (arith, skip-within rest))

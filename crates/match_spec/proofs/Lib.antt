@@ -7,3 +7,4 @@ pub mod MatchLemmas
 pub mod TextLemmas
 pub mod LegalLemmas
 pub mod CanonicalLemmas
+pub mod BlankLemmas

@@ -10,6 +10,7 @@ pub mod Kept
 pub mod Reading
 pub mod Legal
 pub mod Canonical
+pub mod Blanks
 pub mod Matching
 pub mod Seen
 pub use Rattle.gateway_words.specs.Ascii
