@@ -36,3 +36,9 @@ abbrev pub fault_of : NameRefusal → Option NameRefusal
 fault_of refusal.Empty = Some refusal.Empty
 fault_of (refusal.Char at) = Some (refusal.Char at)
 fault_of refusal.Memory = None
+
+-- the number of a fault in print, and none where memory ran out
+abbrev pub name_fault_number : NameRefusal → Option ℕ
+name_fault_number refusal.Empty = Some 1
+name_fault_number (refusal.Char at) = Some 2
+name_fault_number refusal.Memory = None

@@ -20,6 +20,21 @@ pub enum NameRefusal {
     Memory,
 }
 
+impl NameRefusal {
+    ghost use Rattle.conda_name.specs.Name.{name_fault_number};
+
+    /// The number of the fault in print, and none where memory ran out.
+    pub fn number(self) -> Option<u8>
+        ensures { result ≡ name_fault_number self }
+    {
+        match self {
+            NameRefusal::Empty => Some(1),
+            NameRefusal::Char(_) => Some(2),
+            NameRefusal::Memory => None,
+        }
+    }
+}
+
 impl From<AllocError> for NameRefusal {
     ghost from_gives = { λ _ refusal. refusal ≡ Memory };
 

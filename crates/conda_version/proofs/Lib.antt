@@ -10,3 +10,6 @@ pub mod SoundLemmas
 pub mod TreeLemmas
 pub mod LevelLemmas
 pub mod FirstLemmas
+pub mod AlikeLemmas
+pub mod RunLemmas
+pub mod BlankLemmas

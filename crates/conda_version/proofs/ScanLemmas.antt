@@ -1,12 +1,13 @@
 -- The first fault of a text, found with a count in place of the places that are open.
 use Rattle.std.proofs.Common.{◌≡◌, ◌==◌, ◌<◌, ◌≤◌, ℕ, suc, List, [], ◌∷◌, ◌++◌, Bool, true, false, length, map, refl, sym, ap, ◌∙◌, arith, inl, inr}
-use Rattle.std.specs.Prelude.{◌⊎◌, not, nat_lt, Option, Some, None, if◌then◌else◌}
+use Rattle.std.specs.Prelude.{not, nat_lt, Option, Some, None, if◌then◌else◌}
 use Rattle.std.proofs.lemmas.Bool.{cases_Bool}
 use Rattle.std.proofs.lemmas.Bool.Decides.{nat_tests}
 use Rattle.gateway_words.specs.Ascii.{space}
 use Rattle.conda_version.specs.Constraint.{comes_before, constraint_fault, earlier, ends_item, faults_from, faults_here, first_of, if_so, open_after}
 use Rattle.conda_version.specs.Scan.{depth_after, outermost_after, scan_faults}
-use Rattle.conda_version.specs.Token.{Open, Placed, Token, and, closed, leaf, left, longer, or, right, sign_of, tokens, tokens_from}
+use Rattle.conda_version.specs.Token.{Open, Placed, Token, and, closed, leaf, left, longer, or, right, tokens, tokens_from}
+use Rattle.conda_version.proofs.TokenLemmas.{sign-cases}
 use Rattle.conda_version.specs.declared.fault.ConstraintFault.{ConstraintFault}
 use Rattle.conda_version.specs.declared.fault.ConstraintFault.TheVariants as fault
 
@@ -64,14 +65,6 @@ rise-ended (Some l) at s ps h r = (omega arith, (omega (arith, h), r))
 rise-closed : (l : Open) (at : ℕ) → Rise (first_place l at) (closed l)
 rise-closed None at = tt
 rise-closed (Some l) at = (omega arith, tt)
-
--- a byte is a sign or none
-sign-cases : (b : ℕ) → (sign_of b ≡ None) ⊎ ((s : Token) × (sign_of b ≡ Some s))
-sign-cases b = by (sign_of b) refl
-  where
-    by : (found : Option Token) → sign_of b ≡ found → (sign_of b ≡ None) ⊎ ((s : Token) × (sign_of b ≡ Some s))
-    by None is = inl is
-    by (Some s) is = inr (s, is)
 
 -- the tokens of a text rise
 tokens-rise : (t : List ℕ) (l : Open) (at : ℕ) → OpensBefore l at → Rise (first_place l at) (tokens_from l at t)

@@ -4,19 +4,18 @@ use Rattle.std.specs.Prelude.{◌||◌, not, nat_le, Some, None, Result, Ok, Err
 use Rattle.std.specs.Result.{IsOk}
 use Rattle.std.proofs.lemmas.Bool.Decides.{nat_tests}
 use Rattle.conda_version.specs.Allowing.{signs_of}
-use Rattle.conda_version.specs.Constraint.{constraint_fault, earlier, ends_item, faults, faults_from, faults_here, first_of, if_so, leaf_faults, open_after}
+use Rattle.conda_version.specs.Constraint.{constraint_fault, earlier, ends_item, faults, faults_from, faults_here, first_of, if_so, leaf_faults, most_levels, open_after}
 use Rattle.conda_version.specs.Leaf.{Test, leaf_of}
 use Rattle.conda_version.specs.Scan.{depth_after}
 use Rattle.conda_version.specs.Token.{Placed, Token, and, leaf, left, or, right, tokens}
 use Rattle.conda_version.specs.declared.fault.ConstraintFault.{ConstraintFault}
 use Rattle.conda_version.specs.declared.fault.ConstraintFault.TheVariants as fault
-use Rattle.conda_version.specs.declared.level.TheConstants.{LEVELS}
 use Rattle.conda_version.proofs.ScanLemmas.{open-length}
 
 -- a token may come: whether an item stands right before it, and how many `(` are open
 abbrev pub MayCome : Bool → ℕ → Token → Type 0
 MayCome item depth (leaf text) = (item ≡ false) × IsOk (leaf_of text)
-MayCome item depth left = (item ≡ false) × (depth < LEVELS)
+MayCome item depth left = (item ≡ false) × (depth < most_levels)
 MayCome item depth right = (item ≡ true) × (0 < depth)
 MayCome item depth and = item ≡ true
 MayCome item depth or = item ≡ true
@@ -70,8 +69,8 @@ here-may item depth at (leaf text) e =
     let parts = nil-parts (if_so item (fault.Paren at)) (leaf_faults at (leaf_of text)) e in
     (so-not item (fault.Paren at) parts.0, leaf-read at (leaf_of text) parts.1)
 here-may item depth at left e =
-    let parts = or-parts item (nat_le LEVELS depth) (so-not (item || nat_le LEVELS depth) (fault.Paren at) e) in
-    let fits : nat_le LEVELS depth ≡ false = parts.1 in
+    let parts = or-parts item (nat_le most_levels depth) (so-not (item || nat_le most_levels depth) (fault.Paren at) e) in
+    let fits : nat_le most_levels depth ≡ false = parts.1 in
     (parts.0, grind (arith, nat_tests))
 here-may item depth at right e =
     let parts = nil-parts (if_so (not item) (fault.Empty at)) (if_so (depth == 0) (fault.Paren at)) e in
@@ -84,7 +83,7 @@ here-may item depth at or e = true-item item (so-not (not item) (fault.Empty at)
 may-here : (item : Bool) (depth at : ℕ) (t : Token) → MayCome item depth t → faults_here item depth at t ≡ []
 may-here item depth at (leaf text) m = rw m.0 (read-leaf at (leaf_of text) m.1)
 may-here item depth at left m =
-    let fits : nat_le LEVELS depth ≡ false = let h = m.1 in grind (arith, nat_tests) in
+    let fits : nat_le most_levels depth ≡ false = let h = m.1 in grind (arith, nat_tests) in
     rw (m.0, fits) refl
 may-here item depth at right m =
     let some : (depth == 0) ≡ false = let h = m.1 in grind (arith, nat_tests) in

@@ -33,7 +33,7 @@ tokens-blanks (b ∷ rest) at front e = elim (cases_Bool (b == space)) [
 ]
 
 -- a byte is a sign or none
-sign-cases : (b : ℕ) → (sign_of b ≡ None) ⊎ ((s : Token) × (sign_of b ≡ Some s))
+pub sign-cases : (b : ℕ) → (sign_of b ≡ None) ⊎ ((s : Token) × (sign_of b ≡ Some s))
 sign-cases b = by (sign_of b) refl
   where
     by : (found : Option Token) → sign_of b ≡ found → (sign_of b ≡ None) ⊎ ((s : Token) × (sign_of b ≡ Some s))

@@ -1,15 +1,14 @@
 -- Sound tokens are those that spell a tree, and what they say is what the tree says.
 use Rattle.std.proofs.Common.{◌≡◌, ◌+◌, ◌-◌, ◌<◌, ◌≤◌, ℕ, zero, suc, List, [], ◌∷◌, ◌++◌, Bool, true, false, length, append_assoc, length-append, refl, sym, ap, ◌∙◌, arith, inl, inr, subst}
-use Rattle.std.specs.Prelude.{◌⊎◌, ◌&&◌, ◌||◌, Result, None}
+use Rattle.std.specs.Prelude.{◌⊎◌, ◌↔◌, ◌&&◌, ◌||◌, IsTrue, Result, None}
 use Rattle.std.proofs.lemmas.List.{append-nil}
-use Rattle.conda_version.specs.Allowing.{allowed_by, answer, answer_of, fresh, levels_after, signs_of}
-use Rattle.conda_version.specs.Constraint.{constraint_fault}
+use Rattle.conda_version.specs.Allowing.{Group, allowed_by, allows, answer, answer_of, fresh, groups_after, signs_of}
+use Rattle.conda_version.specs.Constraint.{constraint_fault, most_levels}
+use Rattle.conda_version.specs.Grammar.{version_of}
 use Rattle.conda_version.specs.Token.{Token, and, leaf, left, or, right}
-use Rattle.conda_version.specs.Tree.{All, AllReads, Any, AnyReads, HasTree, IsTreeOf, Item, ItemReads, all_depth, all_holds, any_depth, any_holds, both, either, group, item_depth, item_holds, one, plain, single, spell_all, spell_any, spell_item}
+use Rattle.conda_version.specs.Tree.{All, AllReads, Allows, Any, AnyReads, HasTree, IsTreeOf, Item, ItemReads, all_depth, all_holds, any_depth, any_holds, both, either, group, item_depth, item_holds, one, plain, single, spell_all, spell_any, spell_item}
 use Rattle.conda_version.specs.Version.{Value}
 use Rattle.conda_version.specs.declared.fault.VersionFault.{VersionFault}
-use Rattle.conda_version.specs.declared.level.Level.{Level}
-use Rattle.conda_version.specs.declared.level.TheConstants.{LEVELS}
 use Rattle.conda_version.proofs.SoundLemmas.{Sound, no-fault-sound, sound-no-fault}
 
 -- ---- sound tokens spell a tree
@@ -24,7 +23,7 @@ pub record Begins (depth : ℕ) (ts : List Token) : Type 0 where
   pub rest : List Token
   pub spelled : ts ≡ spell_any tree ++ rest
   pub reads : AnyReads tree
-  pub shallow : any_depth tree + depth ≤ LEVELS
+  pub shallow : any_depth tree + depth ≤ most_levels
   pub ends : Ends depth rest
 
 -- an item in front of an `any`, joined by `,`
@@ -43,7 +42,7 @@ join-reads i (one a) h r = (h, r)
 join-reads i (either a x) h r = ((h, r.0), r.1)
 
 -- it is no deeper than the two
-join-depth : (i : Item) (x : Any) (depth : ℕ) → item_depth i + depth ≤ LEVELS → any_depth x + depth ≤ LEVELS → any_depth (join i x) + depth ≤ LEVELS
+join-depth : (i : Item) (x : Any) (depth : ℕ) → item_depth i + depth ≤ most_levels → any_depth x + depth ≤ most_levels → any_depth (join i x) + depth ≤ most_levels
 join-depth i (one a) depth h r = omega (arith, h, r)
 join-depth i (either a x) depth h r = omega (arith, h, r)
 
@@ -57,7 +56,7 @@ behind-within : (x : Any) (ts rest behind : List Token) → ts ≡ spell_any x +
 behind-within x ts rest behind e is = omega (arith, ap length e, length-append (spell_any x) rest, ap length is)
 
 -- an item, a `,` and an `any`
-joined : (ts : List Token) (depth : ℕ) (i : Item) → ItemReads i → item_depth i + depth ≤ LEVELS → Begins depth ts → Begins depth (spell_item i ++ (and ∷ ts))
+joined : (ts : List Token) (depth : ℕ) (i : Item) → ItemReads i → item_depth i + depth ≤ most_levels → Begins depth ts → Begins depth (spell_item i ++ (and ∷ ts))
 joined ts depth i r d b = record {
   tree = join i b.tree;
   rest = b.rest;
@@ -68,7 +67,7 @@ joined ts depth i r d b = record {
 }
 
 -- an item, a `|` and an `any`
-chosen : (ts : List Token) (depth : ℕ) (i : Item) → ItemReads i → item_depth i + depth ≤ LEVELS → Begins depth ts → Begins depth (spell_item i ++ (or ∷ ts))
+chosen : (ts : List Token) (depth : ℕ) (i : Item) → ItemReads i → item_depth i + depth ≤ most_levels → Begins depth ts → Begins depth (spell_item i ++ (or ∷ ts))
 chosen ts depth i r d b = record {
   tree = either (single i) b.tree;
   rest = b.rest;
@@ -80,7 +79,7 @@ chosen ts depth i r d b = record {
 
 -- behind the `(` and the inside of a group the tokens go on
 regroup : (ts : List Token) (depth : ℕ)
-    → ((x : Any) (behind : List Token) → length behind ≤ length ts → AnyReads x → item_depth (group x) + depth ≤ LEVELS → Sound true depth behind → Begins depth (spell_item (group x) ++ behind))
+    → ((x : Any) (behind : List Token) → length behind ≤ length ts → AnyReads x → item_depth (group x) + depth ≤ most_levels → Sound true depth behind → Begins depth (spell_item (group x) ++ behind))
     → Begins (depth + 1) ts → Begins depth (left ∷ ts)
 regroup ts depth go b = elim b.ends [
   | inl over ↦ absurd (omega (arith, over.0))
@@ -101,7 +100,7 @@ regroup ts depth go b = elim b.ends [
 
 mutual
   -- an `any` begins here
-  begin : (n : ℕ) (ts : List Token) (depth : ℕ) → length ts ≤ n → depth ≤ LEVELS → Sound false depth ts → Begins depth ts
+  begin : (n : ℕ) (ts : List Token) (depth : ℕ) → length ts ≤ n → depth ≤ most_levels → Sound false depth ts → Begins depth ts
   begin n [] depth h d s = cc s.0
   begin zero (t ∷ ts) depth h d s = absurd (omega arith)
   begin (suc n) (leaf text ∷ ts) depth h d s = finish n ts depth (plain text) (omega arith) s.0.1 (omega arith) s.1
@@ -112,7 +111,7 @@ mutual
   begin (suc n) (or ∷ ts) depth h d s = cc s.0
 
   -- an item stands right before
-  finish : (n : ℕ) (ts : List Token) (depth : ℕ) (i : Item) → length ts ≤ n → ItemReads i → item_depth i + depth ≤ LEVELS → Sound true depth ts → Begins depth (spell_item i ++ ts)
+  finish : (n : ℕ) (ts : List Token) (depth : ℕ) (i : Item) → length ts ≤ n → ItemReads i → item_depth i + depth ≤ most_levels → Sound true depth ts → Begins depth (spell_item i ++ ts)
   finish n [] depth i h r d s = record { tree = one (single i); rest = []; spelled = refl; reads = r; shallow = d; ends = inl (s.1, refl) }
   finish zero (t ∷ ts) depth i h r d s = absurd (omega arith)
   finish (suc n) (leaf text ∷ ts) depth i h r d s = cc s.0.0
@@ -143,7 +142,7 @@ no-fault-tree text e = by (begin (length (signs_of text)) (signs_of text) 0 (ome
 
 mutual
   -- an `any` is spelled by sound tokens
-  any-sound : (x : Any) (depth : ℕ) (ts : List Token) → AnyReads x → any_depth x + depth ≤ LEVELS → Sound true depth ts → Sound false depth (spell_any x ++ ts)
+  any-sound : (x : Any) (depth : ℕ) (ts : List Token) → AnyReads x → any_depth x + depth ≤ most_levels → Sound true depth ts → Sound false depth (spell_any x ++ ts)
   any-sound (one a) depth ts r d s = all-sound a depth ts r d s
   any-sound (either a x) depth ts r d s =
       let rest : Sound true depth (or ∷ (spell_any x ++ ts)) = (refl, any-sound x depth ts r.1 (omega (arith, d)) s) in
@@ -151,7 +150,7 @@ mutual
       subst P (sym (append_assoc (spell_all a) (or ∷ spell_any x) ts)) (all-sound a depth (or ∷ (spell_any x ++ ts)) r.0 (omega (arith, d)) rest)
 
   -- so is an `all`
-  all-sound : (a : All) (depth : ℕ) (ts : List Token) → AllReads a → all_depth a + depth ≤ LEVELS → Sound true depth ts → Sound false depth (spell_all a ++ ts)
+  all-sound : (a : All) (depth : ℕ) (ts : List Token) → AllReads a → all_depth a + depth ≤ most_levels → Sound true depth ts → Sound false depth (spell_all a ++ ts)
   all-sound (single i) depth ts r d s = item-sound i depth ts r d s
   all-sound (both i a) depth ts r d s =
       let rest : Sound true depth (and ∷ (spell_all a ++ ts)) = (refl, all-sound a depth ts r.1 (omega (arith, d)) s) in
@@ -159,7 +158,7 @@ mutual
       subst P (sym (append_assoc (spell_item i) (and ∷ spell_all a) ts)) (item-sound i depth (and ∷ (spell_all a ++ ts)) r.0 (omega (arith, d)) rest)
 
   -- so is an item
-  item-sound : (i : Item) (depth : ℕ) (ts : List Token) → ItemReads i → item_depth i + depth ≤ LEVELS → Sound true depth ts → Sound false depth (spell_item i ++ ts)
+  item-sound : (i : Item) (depth : ℕ) (ts : List Token) → ItemReads i → item_depth i + depth ≤ most_levels → Sound true depth ts → Sound false depth (spell_item i ++ ts)
   item-sound (plain text) depth ts r d s = ((refl, r), s)
   item-sound (group x) depth ts r d s =
       let same : depth ≡ depth + 1 - 1 = omega arith in
@@ -179,7 +178,7 @@ tree-no-fault text t =
 
 module _ (version : Result Value VersionFault) where
   -- the level behind an `any` that began where an alternative had held or not
-  abbrev after_any : Any → Bool → Level
+  abbrev after_any : Any → Bool → Group
   after_any (one a) held = record { held = held; all = all_holds version a }
   after_any (either a x) held = after_any x (held || all_holds version a)
 
@@ -200,39 +199,57 @@ module _ (version : Result Value VersionFault) where
 
   mutual
     -- behind the tokens of an `any`
-    says-any : (x : Any) (held : Bool) (ls : List Level) (ts : List Token)
-        → levels_after version (record { held = held; all = true } ∷ ls) (spell_any x ++ ts) ≡ levels_after version (after_any x held ∷ ls) ts
+    says-any : (x : Any) (held : Bool) (ls : List Group) (ts : List Token)
+        → groups_after version (record { held = held; all = true } ∷ ls) (spell_any x ++ ts) ≡ groups_after version (after_any x held ∷ ls) ts
     says-any (one a) held ls ts = says-all a held true ls ts
     says-any (either a x) held ls ts =
-        ap (levels_after version (record { held = held; all = true } ∷ ls)) (append_assoc (spell_all a) (or ∷ spell_any x) ts)
+        ap (groups_after version (record { held = held; all = true } ∷ ls)) (append_assoc (spell_all a) (or ∷ spell_any x) ts)
         ∙ says-all a held true ls (or ∷ (spell_any x ++ ts))
         ∙ says-any x (held || all_holds version a) ls ts
 
     -- behind those of an `all`
-    says-all : (a : All) (held all : Bool) (ls : List Level) (ts : List Token)
-        → levels_after version (record { held = held; all = all } ∷ ls) (spell_all a ++ ts)
-        ≡ levels_after version (record { held = held; all = all && all_holds version a } ∷ ls) ts
+    says-all : (a : All) (held all : Bool) (ls : List Group) (ts : List Token)
+        → groups_after version (record { held = held; all = all } ∷ ls) (spell_all a ++ ts)
+        ≡ groups_after version (record { held = held; all = all && all_holds version a } ∷ ls) ts
     says-all (single i) held all ls ts = says-item i held all ls ts
     says-all (both i a) held all ls ts =
-        ap (levels_after version (record { held = held; all = all } ∷ ls)) (append_assoc (spell_item i) (and ∷ spell_all a) ts)
+        ap (groups_after version (record { held = held; all = all } ∷ ls)) (append_assoc (spell_item i) (and ∷ spell_all a) ts)
         ∙ says-item i held all ls (and ∷ (spell_all a ++ ts))
         ∙ says-all a held (all && item_holds version i) ls ts
-        ∙ (λ k. levels_after version (record { held = held; all = and-assoc all (item_holds version i) (all_holds version a) k } ∷ ls) ts)
+        ∙ (λ k. groups_after version (record { held = held; all = and-assoc all (item_holds version i) (all_holds version a) k } ∷ ls) ts)
 
     -- behind those of an item
-    says-item : (i : Item) (held all : Bool) (ls : List Level) (ts : List Token)
-        → levels_after version (record { held = held; all = all } ∷ ls) (spell_item i ++ ts)
-        ≡ levels_after version (record { held = held; all = all && item_holds version i } ∷ ls) ts
+    says-item : (i : Item) (held all : Bool) (ls : List Group) (ts : List Token)
+        → groups_after version (record { held = held; all = all } ∷ ls) (spell_item i ++ ts)
+        ≡ groups_after version (record { held = held; all = all && item_holds version i } ∷ ls) ts
     says-item (plain text) held all ls ts = refl
     says-item (group x) held all ls ts =
-        ap (levels_after version (fresh ∷ (record { held = held; all = all } ∷ ls))) (append_assoc (spell_any x) (right ∷ []) ts)
+        ap (groups_after version (fresh ∷ (record { held = held; all = all } ∷ ls))) (append_assoc (spell_any x) (right ∷ []) ts)
         ∙ says-any x false (record { held = held; all = all } ∷ ls) (right ∷ ts)
-        ∙ (λ k. levels_after version (record { held = held; all = all && answer-any x false k } ∷ ls) ts)
+        ∙ (λ k. groups_after version (record { held = held; all = all && answer-any x false k } ∷ ls) ts)
 
   -- a text allows what each of its trees says
   pub allowed-tree : (text : List ℕ) (tree : Any) → IsTreeOf text tree → allowed_by version text ≡ any_holds version tree
   allowed-tree text tree is =
-      (λ k. answer_of (levels_after version (fresh ∷ []) (is.spelled k)))
-      ∙ (λ k. answer_of (levels_after version (fresh ∷ []) (sym (append-nil (spell_any tree)) k)))
+      (λ k. answer_of (groups_after version (fresh ∷ []) (is.spelled k)))
+      ∙ (λ k. answer_of (groups_after version (fresh ∷ []) (sym (append-nil (spell_any tree)) k)))
       ∙ ap answer_of (says-any tree false [] [])
       ∙ answer-any tree false
+
+-- both as texts
+pub allows-tree : (text version : List ℕ) (tree : Any) → IsTreeOf text tree → allows text version ≡ any_holds (version_of version) tree
+unfolding allows
+allows-tree text version tree is = allowed-tree (version_of version) text tree is
+
+-- a constraint allows what the tree that it has says
+pub allows-means : (text version : List ℕ) → constraint_fault text ≡ None → IsTrue (allows text version) ↔ Allows text version
+allows-means text version e = (
+  λ h. (let t = no-fault-tree text e in record { tree = t.0; spelled = t.1; says = sym (allows-tree text version t.0 t.1) ∙ h }),
+  λ a. allows-tree text version a.tree a.spelled ∙ a.says,
+)
+
+-- so does what the code answers
+pub allows-answer : (result : Bool) (text version : List ℕ) → constraint_fault text ≡ None → result ≡ allows text version → IsTrue result ↔ Allows text version
+allows-answer result text version e is =
+    let m = allows-means text version e in
+    (λ h. m.0 (sym is ∙ h), λ a. is ∙ m.1 a)

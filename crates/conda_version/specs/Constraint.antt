@@ -8,9 +8,12 @@ use Rattle.conda_version.specs.declared.fault.ConstraintFault.{ConstraintFault}
 use Rattle.conda_version.specs.declared.fault.ConstraintFault.TheVariants as fault
 use Rattle.conda_version.specs.declared.fault.ConstraintRefusal.{ConstraintRefusal}
 use Rattle.conda_version.specs.declared.fault.ConstraintRefusal.TheVariants as refusal
-use Rattle.conda_version.specs.declared.level.TheConstants.{LEVELS}
 
 -- ---- the faults that stand in a text
+
+-- how many levels of parentheses a constraint may have
+abbrev pub most_levels : ℕ
+most_levels = 64
 
 -- a fault, where something is so
 abbrev pub if_so : Bool → ConstraintFault → List ConstraintFault
@@ -33,7 +36,7 @@ leaf_faults at (Err f) = shifted at f ∷ []
 -- the faults that stand at a token: whether an item stands right before it, and how many `(` are open
 abbrev pub faults_here : Bool → ℕ → ℕ → Token → List ConstraintFault
 faults_here item depth at (leaf text) = if_so item (fault.Paren at) ++ leaf_faults at (leaf_of text)
-faults_here item depth at left = if_so (item || nat_le LEVELS depth) (fault.Paren at)
+faults_here item depth at left = if_so (item || nat_le most_levels depth) (fault.Paren at)
 faults_here item depth at right = if_so (not item) (fault.Empty at) ++ if_so (depth == 0) (fault.Paren at)
 faults_here item depth at and = if_so (not item) (fault.Empty at)
 faults_here item depth at or = if_so (not item) (fault.Empty at)
@@ -76,17 +79,17 @@ place_of (fault.Version at) = at
 place_of (fault.Paren at) = at
 place_of (fault.Star at) = at
 
--- the number of a fault, which decides at one place
-abbrev pub number_of : ConstraintFault → ℕ
-number_of (fault.Empty at) = 1
-number_of (fault.Operator at) = 2
-number_of (fault.Version at) = 3
-number_of (fault.Paren at) = 4
-number_of (fault.Star at) = 5
+-- the number of a fault in print, which decides at one place
+abbrev pub constraint_fault_number : ConstraintFault → ℕ
+constraint_fault_number (fault.Empty at) = 1
+constraint_fault_number (fault.Operator at) = 2
+constraint_fault_number (fault.Version at) = 3
+constraint_fault_number (fault.Paren at) = 4
+constraint_fault_number (fault.Star at) = 5
 
 -- whether g comes before f: at an earlier place, or at the same one with a lower number
 abbrev pub comes_before : ConstraintFault → ConstraintFault → Bool
-comes_before g f = nat_lt (place_of g) (place_of f) || (place_of g == place_of f && nat_lt (number_of g) (number_of f))
+comes_before g f = nat_lt (place_of g) (place_of f) || (place_of g == place_of f && nat_lt (constraint_fault_number g) (constraint_fault_number f))
 
 -- f stands among some faults
 abbrev pub StandsIn : List ConstraintFault → ConstraintFault → Type 0

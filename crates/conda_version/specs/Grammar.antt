@@ -154,3 +154,12 @@ version_of_trimmed from text = if is_nil text then Err fault.Empty else version_
 -- what a text reads as: a version, or the first fault that applies
 unfoldable pub version_of : List ℕ → Result Value VersionFault
 version_of text = version_of_trimmed (length text - length (skip_blanks text)) (drop_blanks (skip_blanks text))
+
+-- the number of a fault in print
+abbrev pub version_fault_number : VersionFault → ℕ
+version_fault_number fault.Empty = 1
+version_fault_number (fault.Char at) = 2
+version_fault_number fault.EmptyPart = 3
+version_fault_number fault.Epoch = 4
+version_fault_number fault.Wide = 5
+version_fault_number fault.Twice = 6

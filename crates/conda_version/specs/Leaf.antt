@@ -10,10 +10,10 @@ use Rattle.conda_version.specs.Order.{version_cmp, version_starts_with}
 use Rattle.conda_version.specs.declared.fault.ConstraintFault.{ConstraintFault}
 use Rattle.conda_version.specs.declared.fault.ConstraintFault.TheVariants as fault
 use Rattle.conda_version.specs.declared.fault.VersionFault.{VersionFault}
-use Rattle.conda_version.specs.declared.operator.Operator.{Operator}
-use Rattle.conda_version.specs.declared.operator.Operator.TheVariants as operator
-use Rattle.conda_version.specs.declared.operator.Relation.{Relation}
-use Rattle.conda_version.specs.declared.operator.Relation.TheVariants as relation
+use Rattle.conda_version.specs.Operator.{Operator}
+use Rattle.conda_version.specs.Operator as operator
+use Rattle.conda_version.specs.Relation.{Relation}
+use Rattle.conda_version.specs.Relation as relation
 
 -- ---- what a leaf tests
 
@@ -25,14 +25,14 @@ pub data Test : Type 0 where
 
 -- whether v stands in the relation to w
 abbrev pub relates : Relation → Value → Value → Bool
-relates relation.Equal v w = is_eq (version_cmp v w)
-relates relation.NotEqual v w = not (is_eq (version_cmp v w))
-relates relation.StartsWith v w = version_starts_with v w
-relates relation.StartsOtherwise v w = not (version_starts_with v w)
-relates relation.Less v w = is_lt (version_cmp v w)
-relates relation.AtMost v w = not (is_gt (version_cmp v w))
-relates relation.Greater v w = is_gt (version_cmp v w)
-relates relation.AtLeast v w = not (is_lt (version_cmp v w))
+relates relation.equal v w = is_eq (version_cmp v w)
+relates relation.not_equal v w = not (is_eq (version_cmp v w))
+relates relation.starts v w = version_starts_with v w
+relates relation.starts_otherwise v w = not (version_starts_with v w)
+relates relation.less v w = is_lt (version_cmp v w)
+relates relation.at_most v w = not (is_gt (version_cmp v w))
+relates relation.greater v w = is_gt (version_cmp v w)
+relates relation.at_least v w = not (is_lt (version_cmp v w))
 
 -- whether what a version's text reads as passes a test: without a reading it passes `always` alone
 abbrev pub passes : Result Value VersionFault → Test → Bool
@@ -43,17 +43,17 @@ passes (Ok v) (compatible w front) = not (is_lt (version_cmp v w)) && version_st
 
 -- what an operator, and whether a star stands behind the version, ask for
 abbrev pub relation_of : Operator → Bool → Relation
-relation_of operator.None false = relation.Equal
-relation_of operator.None true = relation.StartsWith
-relation_of operator.Equal star = relation.StartsWith
-relation_of operator.Exact star = relation.Equal
-relation_of operator.NotEqual false = relation.NotEqual
-relation_of operator.NotEqual true = relation.StartsOtherwise
-relation_of operator.Less star = relation.Less
-relation_of operator.AtMost star = relation.AtMost
-relation_of operator.Greater star = relation.Greater
-relation_of operator.AtLeast star = relation.AtLeast
-relation_of operator.Compatible star = relation.AtLeast
+relation_of operator.bare false = relation.equal
+relation_of operator.bare true = relation.starts
+relation_of operator.equal star = relation.starts
+relation_of operator.exact star = relation.equal
+relation_of operator.not_equal false = relation.not_equal
+relation_of operator.not_equal true = relation.starts_otherwise
+relation_of operator.less star = relation.less
+relation_of operator.at_most star = relation.at_most
+relation_of operator.greater star = relation.greater
+relation_of operator.at_least star = relation.at_least
+relation_of operator.compatible star = relation.at_least
 
 -- ---- the operator
 
@@ -82,40 +82,40 @@ is_text a b = pointwise nat_eq a b
 -- the operator that a run of signs is, if it is one
 abbrev pub operator_of : List ℕ → Option Operator
 operator_of run =
-    if is_nil run then Some operator.None
-    else if is_text run (codes "=") then Some operator.Equal
-    else if is_text run (codes "==") then Some operator.Exact
-    else if is_text run (codes "!=") then Some operator.NotEqual
-    else if is_text run (codes "<") then Some operator.Less
-    else if is_text run (codes "<=") then Some operator.AtMost
-    else if is_text run (codes ">") then Some operator.Greater
-    else if is_text run (codes ">=") then Some operator.AtLeast
-    else if is_text run (codes "~=") then Some operator.Compatible
+    if is_nil run then Some operator.bare
+    else if is_text run (codes "=") then Some operator.equal
+    else if is_text run (codes "==") then Some operator.exact
+    else if is_text run (codes "!=") then Some operator.not_equal
+    else if is_text run (codes "<") then Some operator.less
+    else if is_text run (codes "<=") then Some operator.at_most
+    else if is_text run (codes ">") then Some operator.greater
+    else if is_text run (codes ">=") then Some operator.at_least
+    else if is_text run (codes "~=") then Some operator.compatible
     else None
 
 -- whether `*` alone may stand behind an operator
 abbrev pub takes_star : Operator → Bool
-takes_star operator.None = true
-takes_star operator.Equal = true
-takes_star operator.Exact = true
-takes_star operator.NotEqual = false
-takes_star operator.Less = false
-takes_star operator.AtMost = false
-takes_star operator.Greater = false
-takes_star operator.AtLeast = false
-takes_star operator.Compatible = false
+takes_star operator.bare = true
+takes_star operator.equal = true
+takes_star operator.exact = true
+takes_star operator.not_equal = false
+takes_star operator.less = false
+takes_star operator.at_most = false
+takes_star operator.greater = false
+takes_star operator.at_least = false
+takes_star operator.compatible = false
 
 -- whether the operator is `~=`
 abbrev pub is_compatible : Operator → Bool
-is_compatible operator.Compatible = true
-is_compatible operator.None = false
-is_compatible operator.Equal = false
-is_compatible operator.Exact = false
-is_compatible operator.NotEqual = false
-is_compatible operator.Less = false
-is_compatible operator.AtMost = false
-is_compatible operator.Greater = false
-is_compatible operator.AtLeast = false
+is_compatible operator.compatible = true
+is_compatible operator.bare = false
+is_compatible operator.equal = false
+is_compatible operator.exact = false
+is_compatible operator.not_equal = false
+is_compatible operator.less = false
+is_compatible operator.at_most = false
+is_compatible operator.greater = false
+is_compatible operator.at_least = false
 
 -- ---- the version and the star
 

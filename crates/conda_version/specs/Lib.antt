@@ -1,8 +1,12 @@
 pub mod Text
 pub mod Version
 pub mod Grammar
+pub mod Runs
+pub mod Blanks
 pub mod Order
 pub mod OrderLaws
+pub mod Operator
+pub mod Relation
 pub mod Leaf
 pub mod Token
 pub mod Constraint

@@ -1,10 +1,11 @@
 -- The grammar of constraints as trees: what a tree is spelled by, and what it says (docs/FORMATS.md, "Constraints").
-use Rattle.std.specs.Prelude.{◌≡◌, ℕ, suc, ◌&&◌, ◌||◌, ◌≤◌, max, Bool, List, [], ◌∷◌, ◌++◌, Result, IsOk}
+use Rattle.std.specs.Prelude.{◌≡◌, ℕ, suc, ◌&&◌, ◌||◌, ◌≤◌, max, Bool, List, [], ◌∷◌, ◌++◌, Result, IsOk, IsTrue}
 use Rattle.conda_version.specs.Version.{Value}
+use Rattle.conda_version.specs.Constraint.{most_levels}
+use Rattle.conda_version.specs.Grammar.{version_of}
 use Rattle.conda_version.specs.Leaf.{leaf_of}
 use Rattle.conda_version.specs.Token.{Token, leaf, left, right, and, or}
 use Rattle.conda_version.specs.Allowing.{passes_leaf, signs_of}
-use Rattle.conda_version.specs.declared.level.TheConstants.{LEVELS}
 use Rattle.conda_version.specs.declared.fault.VersionFault.{VersionFault}
 
 mutual
@@ -83,7 +84,13 @@ abbrev mutual
 pub record IsTreeOf (text : List ℕ) (tree : Any) : Type 0 where
   pub spelled : signs_of text ≡ spell_any tree
   pub reads : AnyReads tree
-  pub shallow : any_depth tree ≤ LEVELS
+  pub shallow : any_depth tree ≤ most_levels
+
+-- a constraint allows a version, both as texts: the tree that the first spells says so
+pub record Allows (constraint version : List ℕ) : Type 0 where
+  pub tree : Any
+  pub spelled : IsTreeOf constraint tree
+  pub says : IsTrue (any_holds (version_of version) tree)
 
 -- a text spells a constraint
 abbrev pub HasTree : List ℕ → Type 0

@@ -1,14 +1,13 @@
 //! A constraint on versions: reading it, and which versions it allows.
 
-ghost use Rattle.std.specs.Prelude.{◌≡◌, IfErr, IfOk, IfSome, Ok, None};
+ghost use Rattle.std.specs.Prelude.{◌≡◌, ◌↔◌, IfErr, IfOk, IfSome, IsTrue, Ok, None};
 ghost use Rattle.gateway_words.specs.Reading.{Gives};
-ghost use Rattle.conda_version.specs.Allowing.{allows};
+ghost use Rattle.conda_version.specs.Allowing.{allowed_by, allows};
 ghost use Rattle.conda_version.specs.Constraint.{IsFirstFault, constraint_fault, constraint_of, fault_of};
 ghost use Rattle.conda_version.specs.Grammar.{version_of};
 ghost use Rattle.conda_version.specs.Meaning.{seen};
-ghost use Rattle.conda_version.specs.Tree.{Any, HasTree, IsTreeOf, any_holds};
+ghost use Rattle.conda_version.specs.Tree.{Allows, Any, HasTree, IsTreeOf, any_holds};
 ghost use Rattle.conda_version.specs.Version.{Value};
-ghost use Rattle.conda_version.specs.Allowing.{allowed_by};
 
 use crate::fault::{ConstraintRefusal, VersionFault};
 use crate::levels::Levels;
@@ -57,9 +56,10 @@ impl Constraint {
         })
     }
 
-    /// Whether the constraint allows a version. A text that is no version is allowed by `*`, `=*`
-    /// and `==*` alone.
+    /// Whether the constraint allows a version: whether the tree that it spells says so. A text
+    /// that is no version is allowed by `*`, `=*` and `==*` alone.
     pub fn allows(&self, version: &str) -> bool
+        ensures meaning { IsTrue result ↔ Allows self.now version.now }
         ensures tree { (tree : Any) → IsTreeOf self.now tree
             → result ≡ any_holds (version_of version.now) tree }
         ensures exact { result ≡ allows self.now version.now }

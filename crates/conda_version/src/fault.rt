@@ -50,8 +50,26 @@ pub enum ConstraintRefusal {
     Memory,
 }
 
+impl VersionFault {
+    ghost use Rattle.conda_version.specs.Grammar.{version_fault_number};
+
+    /// The number of the fault in print.
+    pub fn number(self) -> u8
+        ensures { result ≡ version_fault_number self }
+    {
+        match self {
+            VersionFault::Empty => 1,
+            VersionFault::Char(_) => 2,
+            VersionFault::EmptyPart => 3,
+            VersionFault::Epoch => 4,
+            VersionFault::Wide => 5,
+            VersionFault::Twice => 6,
+        }
+    }
+}
+
 impl ConstraintFault {
-    ghost use Rattle.conda_version.specs.Constraint.{comes_before, earlier, number_of, place_of, shifted};
+    ghost use Rattle.conda_version.specs.Constraint.{comes_before, constraint_fault_number, earlier, place_of, shifted};
 
     // Where the fault stands.
     fn place(self) -> u64
@@ -66,9 +84,9 @@ impl ConstraintFault {
         }
     }
 
-    // The number of the fault, which decides at one place.
-    fn number(self) -> u8
-        ensures { result ≡ number_of self }
+    /// The number of the fault in print, which decides at one place.
+    pub fn number(self) -> u8
+        ensures { result ≡ constraint_fault_number self }
     {
         match self {
             ConstraintFault::Empty(_) => 1,

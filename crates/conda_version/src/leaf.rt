@@ -24,7 +24,7 @@ impl<'a> LeafTest<'a> {
     ghost use Rattle.conda_version.specs.Grammar.{version_of};
     ghost use Rattle.conda_version.specs.Meaning.{meaning, seen};
     ghost use Rattle.conda_version.specs.Order.{version_cmp, version_starts_with};
-    ghost use Rattle.conda_version.specs.Seen.{test_in, test_read};
+    ghost use Rattle.conda_version.specs.Seen.{operator_in, relation_in, test_in, test_read};
     ghost use Rattle.std.specs.Ordering.{is_lt};
 
     // What a leaf tests, or its fault, at a place that is counted from the leaf's first byte.
@@ -48,7 +48,7 @@ impl<'a> LeafTest<'a> {
         text: &'a [u8],
     ) -> Result<LeafTest<'a>, ConstraintFault>
         requires { at + length text.now < 2 ^ 64 }
-        ensures value { test_read result ≡ operand_of operator at text.now }
+        ensures value { test_read result ≡ operand_of (operator_in operator) at text.now }
         ensures within { IfErr result (λ f. place_of f ≤ at + length text.now) }
     {
         let body = drop_blanks(text);
@@ -62,7 +62,7 @@ impl<'a> LeafTest<'a> {
     // stands at the end.
     fn body(operator: Operator, at: usize, body: &'a [u8]) -> Result<LeafTest<'a>, ConstraintFault>
         requires { at + length body.now < 2 ^ 64 }
-        ensures value { test_read result ≡ body_of operator at body.now }
+        ensures value { test_read result ≡ body_of (operator_in operator) at body.now }
         ensures within { IfErr result (λ f. place_of f ≤ at + length body.now) }
     {
         if body == b"*".as_slice() {
@@ -87,7 +87,7 @@ impl<'a> LeafTest<'a> {
         text: &'a [u8],
     ) -> Result<LeafTest<'a>, ConstraintFault>
         ensures value { test_read result
-            ≡ versioned operator star at text.now (version_of text.now) }
+            ≡ versioned (operator_in operator) star at text.now (version_of text.now) }
         ensures within { IfErr result (λ f. place_of f ≡ at) }
     {
         let Ok(version) = Version::read_bytes(text) else {
@@ -145,7 +145,8 @@ impl<'a> LeafTest<'a> {
 
     // Whether a version stands in the relation to another one.
     fn relates(relation: Relation, version: Version<'_>, other: Version<'_>) -> bool
-        ensures { result ≡ relates relation (meaning version.entry) (meaning other.entry) }
+        ensures { result
+            ≡ relates (relation_in relation) (meaning version.entry) (meaning other.entry) }
     {
         match relation {
             Relation::Equal => version.compare(other).is_eq(),

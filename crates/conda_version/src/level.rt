@@ -1,7 +1,6 @@
 //! The groups of a constraint that are open, and what they have said so far.
 
 ghost use Rattle.std.specs.Prelude.{◌≡◌};
-ghost use Rattle.conda_version.specs.declared.level.Level.{Level};
 
 /// How many levels of parentheses a constraint may have.
 pub const LEVELS: usize = 64;
@@ -16,10 +15,11 @@ pub(crate) struct Level {
 
 impl Level {
     ghost use Rattle.conda_version.specs.Allowing.{answer, fresh, with_alternative, with_item};
+    ghost use Rattle.conda_version.specs.Levels.{group_in};
 
     // A group in which nothing has been read yet.
     pub(crate) fn fresh() -> Level
-        ensures { result ≡ fresh }
+        ensures { group_in result ≡ fresh }
     {
         Level {
             held: false,
@@ -29,7 +29,7 @@ impl Level {
 
     // The group with one item more.
     pub(crate) fn with_item(self, holds: bool) -> Level
-        ensures { result ≡ with_item self holds }
+        ensures { group_in result ≡ with_item (group_in self) holds }
     {
         Level {
             held: self.held,
@@ -39,7 +39,7 @@ impl Level {
 
     // The group with one alternative more.
     pub(crate) fn with_alternative(self) -> Level
-        ensures { result ≡ with_alternative self }
+        ensures { group_in result ≡ with_alternative (group_in self) }
     {
         Level {
             held: self.answer(),
@@ -49,7 +49,7 @@ impl Level {
 
     // What the group says at its end.
     pub(crate) fn answer(self) -> bool
-        ensures { result ≡ answer self }
+        ensures { result ≡ answer (group_in self) }
     {
         self.held || self.all
     }

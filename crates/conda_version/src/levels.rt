@@ -1,7 +1,7 @@
 //! The groups that are open, one round the other, without memory.
 
 ghost use Rattle.std.specs.Prelude.{◌≡◌, ◌≤◌, ◌<◌, [], ◌∷◌, length};
-ghost use Rattle.conda_version.specs.Allowing.{answer_of, close_inner, fresh, levels_behind, on_inner, passes_leaf, with_alternative, with_item};
+ghost use Rattle.conda_version.specs.Allowing.{answer_of, close_inner, fresh, groups_behind, on_inner, passes_leaf, with_alternative, with_item};
 ghost use Rattle.conda_version.specs.Levels.{HasRoom};
 ghost use Rattle.conda_version.specs.Meaning.{seen};
 ghost use Rattle.conda_version.specs.Seen.{token_in};
@@ -23,13 +23,13 @@ pub(crate) struct Levels {
 
 impl Model for Levels {
     ghost use Rattle.std.specs.Prelude.{◌≡◌, ◌≤◌, ◌∷◌, List, length};
-    ghost use Rattle.conda_version.specs.Levels.{stack};
-    ghost use Rattle.conda_version.specs.declared.level.Level.{Level};
+    ghost use Rattle.conda_version.specs.Allowing.{Group};
+    ghost use Rattle.conda_version.specs.Levels.{group_in, stack};
     ghost use Rattle.conda_version.specs.declared.level.TheConstants.{LEVELS};
 
-    ghost Value = { List Level };
+    ghost Value = { List Group };
 
-    ghost view = { λ s. s.inner ∷ stack s.outer s.depth };
+    ghost view = { λ s. group_in s.inner ∷ stack s.outer s.depth };
 
     ghost invariant = { λ s. (s.depth ≤ LEVELS) × (length s.outer ≡ LEVELS) };
 }
@@ -50,7 +50,7 @@ impl Levels {
     // Reads a token.
     pub(crate) fn read(&mut self, piece: Piece<'_>, version: Result<Version<'_>, VersionFault>)
         requires { HasRoom (token_in piece) (length self.old) }
-        ensures { self.new ≡ levels_behind (seen version.entry) self.old (token_in piece.entry) }
+        ensures { self.new ≡ groups_behind (seen version.entry) self.old (token_in piece.entry) }
     {
         match piece {
             Piece::Leaf(text) => self.add(passes_leaf(version, text)),

@@ -24,7 +24,10 @@ mod version;
 pub use constraint::Constraint;
 pub use fault::{ConstraintFault, ConstraintRefusal, VersionFault};
 pub use laws::{
-    a_last_underscore_is_put_back, order_is_total, ties_are_equal_runs, ties_start_alike,
+    a_blank_in_front_moves_places, a_component_is_cut_into_maximal_runs,
+    a_constraint_says_what_its_tree_says, a_last_underscore_is_put_back,
+    a_version_starts_with_its_equals, equal_versions_are_allowed_alike, levels_are_64,
+    order_is_total, ties_are_equal_runs, ties_start_alike,
 };
 pub use level::LEVELS;
 pub use version::Version;

@@ -2,12 +2,13 @@
 
 ghost use Rattle.std.specs.Prelude.{◌≡◌, ◌≤◌, length};
 ghost use Rattle.conda_version.specs.Leaf.{is_sign, operator_of, sign_len};
+ghost use Rattle.conda_version.specs.Seen.{operator_seen};
 
 /// What stands before the version of a leaf.
 #[derive(Clone, Copy)]
 pub(crate) enum Operator {
     /// Nothing.
-    None,
+    Bare,
     /// `=`
     Equal,
     /// `==`
@@ -73,10 +74,10 @@ pub(crate) fn sign_len(text: &[u8]) -> usize
 
 // The operator that a run of signs is, if it is one.
 pub(crate) fn operator_of(run: &[u8]) -> Option<Operator>
-    ensures { result ≡ operator_of run.now }
+    ensures { operator_seen result ≡ operator_of run.now }
 {
     if run.is_empty() {
-        Some(Operator::None)
+        Some(Operator::Bare)
     } else if run == b"=".as_slice() {
         Some(Operator::Equal)
     } else if run == b"==".as_slice() {
@@ -100,13 +101,14 @@ pub(crate) fn operator_of(run: &[u8]) -> Option<Operator>
 
 impl Operator {
     ghost use Rattle.conda_version.specs.Leaf.{is_compatible, relation_of, takes_star};
+    ghost use Rattle.conda_version.specs.Seen.{operator_in, relation_in};
 
     // Whether `*` alone may stand behind the operator.
     pub(crate) fn takes_star(self) -> bool
-        ensures { result ≡ takes_star self }
+        ensures { result ≡ takes_star (operator_in self) }
     {
         match self {
-            Operator::None | Operator::Equal | Operator::Exact => true,
+            Operator::Bare | Operator::Equal | Operator::Exact => true,
             Operator::NotEqual
             | Operator::Less
             | Operator::AtMost
@@ -118,18 +120,18 @@ impl Operator {
 
     // Whether the operator is `~=`.
     pub(crate) fn is_compatible(self) -> bool
-        ensures { result ≡ is_compatible self }
+        ensures { result ≡ is_compatible (operator_in self) }
     {
         matches!(self, Operator::Compatible)
     }
 
     // What the operator asks for, with a star behind its version or without.
     pub(crate) fn relation(self, star: bool) -> Relation
-        ensures { result ≡ relation_of self star }
+        ensures { relation_in result ≡ relation_of (operator_in self) star }
     {
         match self {
-            Operator::None if star => Relation::StartsWith,
-            Operator::None => Relation::Equal,
+            Operator::Bare if star => Relation::StartsWith,
+            Operator::Bare => Relation::Equal,
             Operator::Equal => Relation::StartsWith,
             Operator::Exact => Relation::Equal,
             Operator::NotEqual if star => Relation::StartsOtherwise,

@@ -5,8 +5,7 @@ use Rattle.std.proofs.lemmas.List.{append_assoc, drop_more, reverse-append, take
 use Rattle.gateway_words.specs.Ascii.{space}
 use Rattle.conda_version.specs.Text.{begins_at, drop_blanks, skip_blanks}
 use Rattle.std.proofs.lemmas.Bool.{cases_Bool}
-use Rattle.match_spec.specs.Kept.{are_bound, blank_at, blanks_stay, kept, place_in, place_of_last, placed_from, stays}
-use Rattle.match_spec.specs.declared.kept.Placed.{Placed}
+use Rattle.match_spec.specs.Kept.{Placed, are_bound, blank_at, blanks_stay, kept, place_in, place_of_last, placed_from, stays}
 
 -- each place is at most this one
 abbrev AreWithin : ℕ → List Placed → Type 0

@@ -5,3 +5,6 @@ pub mod StarLemmas
 pub mod AsciiLemmas
 pub mod MatchLemmas
 pub mod TextLemmas
+pub mod LegalLemmas
+pub mod CanonicalLemmas
+pub mod BlankLemmas

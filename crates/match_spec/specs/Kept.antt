@@ -7,7 +7,6 @@ use Rattle.conda_version.specs.Grammar.{is_version_byte}
 use Rattle.conda_version.specs.Leaf.{ends_in_star, is_text, signs, strip_end, strip_front}
 use Rattle.conda_version.specs.Text.{begins_at, cut_at, drop_blanks, skip_blanks}
 use Rattle.match_spec.specs.Signs.{is_mark}
-use Rattle.match_spec.specs.declared.kept.Placed.{Placed}
 
 -- ---- blanks that are dropped
 
@@ -48,6 +47,11 @@ stays text n = not (begins_at space (drop n text)) || blanks_stay text n
 -- whether the blank at a place stays, where one stands there
 abbrev pub blank_at : List ℕ → ℕ → Option Bool
 blank_at text n = if begins_at space (drop n text) then Some (blanks_stay text n) else None
+
+-- a byte, and its place among those behind the name
+pub record Placed : Type 0 where
+  pub at : ℕ
+  pub byte : ℕ
 
 -- the bytes of a text with their places, from a place on
 abbrev pub placed_from : ℕ → List ℕ → List Placed

@@ -1,11 +1,16 @@
 pub mod Signs
 pub mod Passage
 pub mod StarBuild
+pub mod Comparison
 pub mod Number
+pub mod Key
 pub mod Parts
 pub mod Bracket
 pub mod Kept
 pub mod Reading
+pub mod Legal
+pub mod Canonical
+pub mod Blanks
 pub mod Matching
 pub mod Seen
 pub use Rattle.gateway_words.specs.Ascii
@@ -18,3 +23,4 @@ pub use Rattle.conda_version.specs.Allowing
 pub use Rattle.conda_version.specs.Constraint
 pub use Rattle.conda_version.specs.Leaf
 pub use Rattle.conda_version.specs.Text
+pub use Rattle.conda_version.specs.Tree

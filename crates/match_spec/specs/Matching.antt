@@ -4,6 +4,7 @@ use Rattle.conda_name.specs.Name.{lower_case}
 use Rattle.conda_record.specs.Record.{Fields}
 use Rattle.conda_version.specs.Allowing.{allows}
 use Rattle.conda_version.specs.Leaf.{is_text}
+use Rattle.conda_version.specs.Tree.{Allows}
 use Rattle.match_spec.specs.Number.{passes}
 use Rattle.match_spec.specs.Parts.{Meaning, Parts}
 use Rattle.match_spec.specs.StarBuild.{FitsBuild, fits_build}
@@ -12,7 +13,7 @@ use Rattle.match_spec.specs.StarBuild.{FitsBuild, fits_build}
 -- each part that is there
 pub record Matches (spec : Meaning) (row : Fields) (channel subdir file : List ℕ) : Type 0 where
   pub name : lower_case row.name ≡ spec.name
-  pub version : IfSome spec.parts.version (λ constraint. IsTrue (allows constraint row.version))
+  pub version : IfSome spec.parts.version (λ constraint. Allows constraint row.version)
   pub build : IfSome spec.parts.build (λ build. FitsBuild build row.build)
   pub build_number : IfSome spec.parts.build_number (λ wanted. IsTrue (passes wanted row.build_number))
   pub in_channel : IfSome spec.parts.channel (λ wanted. wanted ≡ channel)

@@ -4,18 +4,22 @@ use Rattle.std.specs.Char.{is_ascii_digit}
 use Rattle.std.specs.List.{list_all}
 use Rattle.conda_version.specs.Leaf.{behind_signs, is_text, signs}
 use Rattle.conda_version.specs.Text.{is_nil}
-use Rattle.match_spec.specs.declared.number.Comparison.{Comparison}
-use Rattle.match_spec.specs.declared.number.Comparison.TheVariants as comparison
-use Rattle.match_spec.specs.declared.number.NumberTest.{NumberTest}
+use Rattle.match_spec.specs.Comparison.{Comparison}
+use Rattle.match_spec.specs.Comparison as comparison
+
+-- a comparison with a build number
+pub record NumberTest : Type 0 where
+  pub comparison : Comparison
+  pub number : ℕ
 
 -- whether n stands to m as the comparison says
 abbrev pub compares : Comparison → ℕ → ℕ → Bool
-compares comparison.Equal n m = n == m
-compares comparison.NotEqual n m = not (n == m)
-compares comparison.Less n m = nat_lt n m
-compares comparison.AtMost n m = nat_le n m
-compares comparison.Greater n m = nat_lt m n
-compares comparison.AtLeast n m = nat_le m n
+compares comparison.equal n m = n == m
+compares comparison.not_equal n m = not (n == m)
+compares comparison.less n m = nat_lt n m
+compares comparison.at_most n m = nat_le n m
+compares comparison.greater n m = nat_lt m n
+compares comparison.at_least n m = nat_le m n
 
 -- whether a build number passes a test
 abbrev pub passes : NumberTest → ℕ → Bool
@@ -24,13 +28,13 @@ passes t n = compares t.comparison n t.number
 -- the comparison that a run of signs is, if it is one; none means equal
 abbrev pub comparison_of : List ℕ → Option Comparison
 comparison_of run =
-    if is_nil run then Some comparison.Equal
-    else if is_text run (codes "==") then Some comparison.Equal
-    else if is_text run (codes "!=") then Some comparison.NotEqual
-    else if is_text run (codes "<") then Some comparison.Less
-    else if is_text run (codes "<=") then Some comparison.AtMost
-    else if is_text run (codes ">") then Some comparison.Greater
-    else if is_text run (codes ">=") then Some comparison.AtLeast
+    if is_nil run then Some comparison.equal
+    else if is_text run (codes "==") then Some comparison.equal
+    else if is_text run (codes "!=") then Some comparison.not_equal
+    else if is_text run (codes "<") then Some comparison.less
+    else if is_text run (codes "<=") then Some comparison.at_most
+    else if is_text run (codes ">") then Some comparison.greater
+    else if is_text run (codes ">=") then Some comparison.at_least
     else None
 
 -- the number that some digits are, behind others that are n

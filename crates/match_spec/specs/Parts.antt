@@ -1,6 +1,6 @@
 -- What a spec asks for, part by part (docs/FORMATS.md, "Specs").
 use Rattle.std.specs.Prelude.{ℕ, List, Option, Some, None}
-use Rattle.match_spec.specs.declared.number.NumberTest.{NumberTest}
+use Rattle.match_spec.specs.Number.{NumberTest}
 
 -- the parts beside the name, each where the spec has it; a constraint is its text, a digest its bytes
 pub record Parts : Type 0 where

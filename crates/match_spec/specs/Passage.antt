@@ -1,21 +1,11 @@
 -- Passages of a text: some of its bytes, and the place where they stand in it.
 use Rattle.std.specs.Prelude.{ℕ, ◌+◌, ◌-◌, ◌==◌, List, length, take, drop, position, Option, Some, None}
 use Rattle.conda_version.specs.Text.{drop_blanks, skip_blanks}
-use Rattle.match_spec.specs.declared.passage.Passage.{Passage as Held}
 
 -- a place in the whole text, and the bytes that stand there
 pub record Passage : Type 0 where
   pub at : ℕ
   pub text : List ℕ
-
--- the passage that the code holds
-abbrev pub passage_in : Held → Passage
-passage_in p = record { at = p.at; text = p.text.now }
-
--- the passage, where the code holds one
-abbrev pub passage_there : Option Held → Option Passage
-passage_there None = None
-passage_there (Some p) = Some (passage_in p)
 
 -- the first n bytes of a passage
 abbrev pub front : ℕ → Passage → Passage

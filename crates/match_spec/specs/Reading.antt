@@ -12,7 +12,9 @@ use Rattle.conda_version.specs.Leaf.{before_last, is_text, turned_round}
 use Rattle.conda_version.specs.Text.{begins_at, cut_at, is_nil, skip_blanks}
 use Rattle.conda_version.specs.declared.fault.ConstraintFault.{ConstraintFault}
 use Rattle.match_spec.specs.Bracket.{Entry, Value, bare, entries, halves_of, quoted, unclosed}
-use Rattle.match_spec.specs.Kept.{bytes_of, form_constraint, form_of, kept, place_of_last}
+use Rattle.match_spec.specs.Key.{Key}
+use Rattle.match_spec.specs.Key as key
+use Rattle.match_spec.specs.Kept.{Placed, bytes_of, form_constraint, form_of, kept, place_of_last}
 use Rattle.match_spec.specs.Number.{number_test}
 use Rattle.match_spec.specs.Parts.{Meaning, Parts, no_parts, replaced}
 use Rattle.match_spec.specs.Passage.{Passage, begun, behind, ended, trimmed}
@@ -22,9 +24,6 @@ use Rattle.match_spec.specs.declared.fault.SpecFault.{SpecFault}
 use Rattle.match_spec.specs.declared.fault.SpecFault.TheVariants as fault
 use Rattle.match_spec.specs.declared.fault.SpecRefusal.{SpecRefusal}
 use Rattle.match_spec.specs.declared.fault.SpecRefusal.TheVariants as refusal
-use Rattle.match_spec.specs.declared.key.Key.{Key}
-use Rattle.match_spec.specs.declared.key.Key.TheVariants as key
-use Rattle.match_spec.specs.declared.kept.Placed.{Placed}
 
 -- what is read, or a fault
 abbrev pub Read : Type 0 → Type 0
@@ -59,26 +58,26 @@ build_or f text = if is_build text then Ok text else Err f
 -- the key of some bytes, if it is one
 abbrev pub key_of : List ℕ → Option Key
 key_of text =
-    if is_text text (codes "version") then Some key.Version
-    else if is_text text (codes "build") then Some key.Build
-    else if is_text text (codes "build_number") then Some key.BuildNumber
-    else if is_text text (codes "channel") then Some key.Channel
-    else if is_text text (codes "subdir") then Some key.Subdir
-    else if is_text text (codes "md5") then Some key.Md5
-    else if is_text text (codes "sha256") then Some key.Sha256
-    else if is_text text (codes "fn") then Some key.File
+    if is_text text (codes "version") then Some key.version
+    else if is_text text (codes "build") then Some key.build
+    else if is_text text (codes "build_number") then Some key.build_number
+    else if is_text text (codes "channel") then Some key.channel
+    else if is_text text (codes "subdir") then Some key.subdir
+    else if is_text text (codes "md5") then Some key.md5
+    else if is_text text (codes "sha256") then Some key.sha256
+    else if is_text text (codes "fn") then Some key.file
     else None
 
 -- whether the part of a key is there
 abbrev pub has : Key → Parts → Bool
-has key.Version parts = is_some parts.version
-has key.Build parts = is_some parts.build
-has key.BuildNumber parts = is_some parts.build_number
-has key.Channel parts = is_some parts.channel
-has key.Subdir parts = is_some parts.subdir
-has key.Md5 parts = is_some parts.md5
-has key.Sha256 parts = is_some parts.sha256
-has key.File parts = is_some parts.file
+has key.version parts = is_some parts.version
+has key.build parts = is_some parts.build
+has key.build_number parts = is_some parts.build_number
+has key.channel parts = is_some parts.channel
+has key.subdir parts = is_some parts.subdir
+has key.md5 parts = is_some parts.md5
+has key.sha256 parts = is_some parts.sha256
+has key.file parts = is_some parts.file
 
 -- a text that isn't empty, or this fault
 abbrev pub text_or : SpecFault → List ℕ → Read (List ℕ)
@@ -90,21 +89,21 @@ digest_or n f text = or_fault f (result_ok (decode_sized text n))
 
 -- the parts with the value of a key, or a fault where the value isn't of the key's form
 unfoldable pub with_value : Key → Passage → Parts → Read Parts
-with_value key.Version v parts =
+with_value key.version v parts =
     constraint_or (fault.Value v.at) v.text >>= λ found. Ok (record parts { version = Some found })
-with_value key.Build v parts =
+with_value key.build v parts =
     build_or (fault.Value v.at) v.text >>= λ found. Ok (record parts { build = Some found })
-with_value key.BuildNumber v parts =
+with_value key.build_number v parts =
     or_fault (fault.Value v.at) (number_test v.text) >>= λ found. Ok (record parts { build_number = Some found })
-with_value key.Channel v parts =
+with_value key.channel v parts =
     text_or (fault.Value v.at) v.text >>= λ found. Ok (record parts { channel = Some found })
-with_value key.Subdir v parts =
+with_value key.subdir v parts =
     text_or (fault.Value v.at) v.text >>= λ found. Ok (record parts { subdir = Some found })
-with_value key.Md5 v parts =
+with_value key.md5 v parts =
     digest_or 16 (fault.Value v.at) v.text >>= λ found. Ok (record parts { md5 = Some found })
-with_value key.Sha256 v parts =
+with_value key.sha256 v parts =
     digest_or 32 (fault.Value v.at) v.text >>= λ found. Ok (record parts { sha256 = Some found })
-with_value key.File v parts =
+with_value key.file v parts =
     text_or (fault.Value v.at) v.text >>= λ found. Ok (record parts { file = Some found })
 
 -- the parts with a value that was cut out: behind a closing quote may stand blanks alone
@@ -262,3 +261,14 @@ spec_of text = spec_in (trimmed (record { at = 0; text = text }))
 abbrev pub fault_of : SpecRefusal → Option SpecFault
 fault_of (refusal.Fault f) = Some f
 fault_of refusal.Memory = None
+
+-- the number of a fault in print
+abbrev pub spec_fault_number : SpecFault → ℕ
+spec_fault_number fault.Empty = 1
+spec_fault_number fault.NoName = 2
+spec_fault_number (fault.Name at) = 3
+spec_fault_number (fault.Version at) = 4
+spec_fault_number (fault.Build at) = 5
+spec_fault_number (fault.Bracket at) = 6
+spec_fault_number (fault.Key at) = 7
+spec_fault_number (fault.Value at) = 8

@@ -3,10 +3,10 @@
 ghost use Rattle.std.specs.Prelude.{◌≡◌};
 ghost use Rattle.gateway_words.specs.Reading.{Gives};
 ghost use Rattle.match_spec.specs.Bracket.{entries, open_quote};
-ghost use Rattle.match_spec.specs.Passage.{passage_in, passage_there};
+ghost use Rattle.match_spec.specs.Seen.{passage_in, passage_there};
 ghost use Rattle.match_spec.specs.Parts.{no_parts};
 ghost use Rattle.match_spec.specs.Reading.{bracket_of, fault_of, key_of, new_key, with_cut_value, with_entries, with_entry};
-ghost use Rattle.match_spec.specs.Seen.{entry_in, value_in};
+ghost use Rattle.match_spec.specs.Seen.{entry_in, key_in, key_read, value_in};
 
 use crate::entry::{Entry, Value};
 use crate::fault::{SpecFault, SpecRefusal};
@@ -26,7 +26,7 @@ pub(crate) struct Halves<'a> {
 impl<'a> Halves<'a> {
     ghost use Rattle.std.specs.Prelude.{◌≡◌, ◌<◌, length, Some, true};
     ghost use Rattle.match_spec.specs.Bracket.{halves_by, halves_of};
-    ghost use Rattle.match_spec.specs.Passage.{passage_in};
+    ghost use Rattle.match_spec.specs.Seen.{passage_in};
     ghost use Rattle.match_spec.specs.Seen.{halves_seen};
 
     // A spec cut at its bracket.
@@ -119,7 +119,7 @@ fn read_entry(alloc: Global, parts: &mut Parts, entry: Entry<'_>) -> Result<(), 
 
 // The key that some bytes are, where it is one and its part isn't there yet.
 fn new_key(parts: &Parts, text: &[u8], fault: SpecFault) -> Result<Key, SpecFault>
-    ensures { result ≡ new_key fault (key_of text.now) parts.now }
+    ensures { key_read result ≡ new_key fault (key_of text.now) parts.now }
 {
     match key_of(text) {
         Some(key) if !parts.has(key) => Ok(key),
@@ -135,7 +135,7 @@ fn read_cut_value(
     value: Value<'_>,
 ) -> Result<(), SpecRefusal>
     ensures { Gives (λ _. parts.new) fault_of result
-        (with_cut_value key (value_in value.entry) parts.old) }
+        (with_cut_value (key_in key) (value_in value.entry) parts.old) }
 {
     match value {
         Value::Bare(text) => parts.read_value(alloc, key, text.ended()),

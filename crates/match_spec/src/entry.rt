@@ -30,7 +30,7 @@ pub(crate) struct Entry<'a> {
 impl<'a> Entry<'a> {
     ghost use Rattle.std.specs.Prelude.{◌≡◌, ◌+◌, ◌^◌, Some};
     ghost use Rattle.match_spec.specs.Bracket.{entry_by, entry_of, is_equals_at, quoted_entry, valued_entry};
-    ghost use Rattle.match_spec.specs.Passage.{passage_in};
+    ghost use Rattle.match_spec.specs.Seen.{passage_in};
     ghost use Rattle.match_spec.specs.Seen.{entry_in};
 
     // The part with which a passage begins.

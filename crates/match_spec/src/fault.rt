@@ -40,6 +40,26 @@ pub enum SpecRefusal {
     Memory,
 }
 
+impl SpecFault {
+    ghost use Rattle.match_spec.specs.Reading.{spec_fault_number};
+
+    /// The number of the fault in print.
+    pub fn number(self) -> u8
+        ensures { result ≡ spec_fault_number self }
+    {
+        match self {
+            SpecFault::Empty => 1,
+            SpecFault::NoName => 2,
+            SpecFault::Name(_) => 3,
+            SpecFault::Version(_) => 4,
+            SpecFault::Build(_) => 5,
+            SpecFault::Bracket(_) => 6,
+            SpecFault::Key(_) => 7,
+            SpecFault::Value(_) => 8,
+        }
+    }
+}
+
 impl From<SpecFault> for SpecRefusal {
     ghost from_gives = { λ fault refusal. refusal ≡ Fault fault };
 

@@ -11,12 +11,23 @@ ghost use Rattle.match_spec.specs.Signs.{is_mark};
 
 use crate::text::{cut_at, drop_blanks, is_sign, skip_blanks};
 use std::alloc::{AllocError, Global};
+use std::marker::Model;
 
 // A byte, and its place among those behind the name.
 #[derive(Clone, Copy)]
 pub(crate) struct Placed {
     pub(crate) at: usize,
     pub(crate) byte: u8,
+}
+
+impl Model for Placed {
+    ghost use Rattle.match_spec.specs.Kept.{Placed};
+
+    ghost Value = { Placed };
+
+    ghost view = { λ p. record { at = p.at; byte = p.byte } };
+
+    ghost inverse = { λ p. record { at = p.at; byte = p.byte } };
 }
 
 // The bytes of a text that stay, each with its place: without blanks next to `,`, `|`, `(` and `)`

@@ -2,6 +2,7 @@
 
 ghost use Rattle.std.specs.Prelude.{◌≡◌};
 ghost use Rattle.match_spec.specs.Reading.{key_of};
+ghost use Rattle.match_spec.specs.Seen.{key_there};
 
 // A key of the bracket.
 #[derive(Clone, Copy)]
@@ -18,7 +19,7 @@ pub(crate) enum Key {
 
 // The key that some bytes are, if they are one.
 pub(crate) fn key_of(text: &[u8]) -> Option<Key>
-    ensures { result ≡ key_of text.now }
+    ensures { key_there result ≡ key_of text.now }
 {
     if text == b"version".as_slice() {
         Some(Key::Version)

@@ -12,6 +12,7 @@ mod entry;
 mod fault;
 mod kept;
 mod key;
+mod laws;
 mod number;
 mod outside;
 mod parts;
@@ -21,6 +22,9 @@ mod text;
 mod version;
 
 pub use fault::{SpecFault, SpecRefusal};
+pub use laws::{
+    a_blank_in_front_of_a_spec_moves_places, a_canonical_spec_is_read, what_is_read_is_a_spec,
+};
 pub use spec::Spec;
 
 #[cfg(test)]

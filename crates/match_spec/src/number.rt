@@ -24,10 +24,11 @@ pub(crate) struct NumberTest {
 
 impl NumberTest {
     ghost use Rattle.match_spec.specs.Number.{number_test, passes};
+    ghost use Rattle.match_spec.specs.Seen.{test_in, test_there};
 
     // The test that a text spells, if it is one.
     pub(crate) fn read(text: &[u8]) -> Option<NumberTest>
-        ensures { result ≡ number_test text.now }
+        ensures { test_there result ≡ number_test text.now }
     {
         let (run, digits) = text.split_at(sign_len(text));
         let comparison = comparison_of(run)?;
@@ -37,7 +38,7 @@ impl NumberTest {
 
     // Whether a build number passes the test.
     pub(crate) fn passes(self, number: u64) -> bool
-        ensures { result ≡ passes self number }
+        ensures { result ≡ passes (test_in self) number }
     {
         match self.comparison {
             Comparison::Equal => number == self.number,
@@ -51,10 +52,11 @@ impl NumberTest {
 }
 
 ghost use Rattle.match_spec.specs.Number.{comparison_of, decimal_from, number_of};
+ghost use Rattle.match_spec.specs.Seen.{comparison_there};
 
 // The comparison that a run of signs is, if it is one; none means equal.
 fn comparison_of(run: &[u8]) -> Option<Comparison>
-    ensures { result ≡ comparison_of run.now }
+    ensures { comparison_there result ≡ comparison_of run.now }
 {
     if run.is_empty() {
         Some(Comparison::Equal)

@@ -7,7 +7,7 @@ ghost use Rattle.gateway_words.specs.Reading.{Gives};
 ghost use Rattle.conda_name.specs.Name.{is_name_byte, lower_case, name_of};
 ghost use Rattle.match_spec.specs.Kept.{bytes_of, kept as kept_of};
 ghost use Rattle.match_spec.specs.Parts.{Meaning, no_parts};
-ghost use Rattle.match_spec.specs.Passage.{passage_in};
+ghost use Rattle.match_spec.specs.Seen.{passage_in};
 ghost use Rattle.match_spec.specs.Reading.{fault_of, may_follow, named, named_before, outside_of, place_of, with_kept, with_rest, with_words};
 ghost use Rattle.conda_version.specs.Text.{cut_at};
 ghost use Rattle.gateway_words.specs.Ascii.{space};

@@ -40,10 +40,12 @@ impl Model for Parts {
 
     ghost Value = { Parts };
 
+    ghost use Rattle.match_spec.specs.Seen.{test_there};
+
     ghost view = { λ p. record {
       version = p.version;
       build = p.build;
-      build_number = p.build_number;
+      build_number = test_there p.build_number;
       channel = p.channel;
       subdir = p.subdir;
       md5 = p.md5;
@@ -58,7 +60,7 @@ impl Parts {
     ghost use Rattle.conda_record.specs.View.{seen};
     ghost use Rattle.match_spec.specs.Matching.{fits_digests, fits_place, fits_version};
     ghost use Rattle.match_spec.specs.Parts.{no_parts, replaced};
-    ghost use Rattle.match_spec.specs.Passage.{passage_in};
+    ghost use Rattle.match_spec.specs.Seen.{key_in, passage_in};
     ghost use Rattle.match_spec.specs.Reading.{fault_of, has, with_both, with_build, with_value, with_version};
 
     // No parts.
@@ -95,7 +97,7 @@ impl Parts {
 
     // Whether the part of a key is there.
     pub(crate) fn has(&self, key: Key) -> bool
-        ensures { result ≡ has key self.now }
+        ensures { result ≡ has (key_in key) self.now }
     {
         match key {
             Key::Version => self.version.is_some(),
@@ -177,7 +179,7 @@ impl Parts {
         value: Passage<'_>,
     ) -> Result<(), SpecRefusal>
         ensures { Gives (λ _. self.new) fault_of result
-            (with_value key (passage_in value.entry) self.old) }
+            (with_value (key_in key) (passage_in value.entry) self.old) }
     {
         let text = value.text;
         let fault = SpecFault::Value(value.at as u64);
@@ -227,6 +229,7 @@ ghost use Rattle.conda_version.specs.Leaf.{is_text};
 ghost use Rattle.match_spec.specs.Matching.{is_digest, unless_there};
 ghost use Rattle.match_spec.specs.Number.{number_test, passes};
 ghost use Rattle.match_spec.specs.Reading.{build_or, digest_or, fault_of, or_fault, text_or};
+ghost use Rattle.match_spec.specs.Seen.{test_read, test_there};
 ghost use Rattle.match_spec.specs.StarBuild.{fits_build};
 
 // The build of some bytes, or this fault.
@@ -251,7 +254,7 @@ fn read_text(alloc: Global, text: &[u8], fault: SpecFault) -> Result<Bytes, Spec
 
 // The test of build numbers of some bytes, or this fault.
 fn read_number(text: &[u8], fault: SpecFault) -> Result<NumberTest, SpecFault>
-    ensures { result ≡ or_fault fault (number_test text.now) }
+    ensures { test_read result ≡ or_fault fault (number_test text.now) }
 {
     NumberTest::read(text).ok_or(fault)
 }
@@ -285,7 +288,7 @@ fn fits_build_part(wanted: &Option<Bytes>, build: &str) -> bool
 
 // Whether there is no test, or one that a build number passes.
 fn fits_number(wanted: Option<NumberTest>, number: u64) -> bool
-    ensures { result ≡ unless_there wanted (λ t. passes t number) }
+    ensures { result ≡ unless_there (test_there wanted) (λ t. passes t number) }
 {
     match wanted {
         Some(wanted) => wanted.passes(number),

@@ -15,17 +15,8 @@ pub(crate) struct Passage<'a> {
 impl<'a> Passage<'a> {
     ghost use Rattle.std.specs.Prelude.{◌≡◌, ◌≤◌, IfSome};
     ghost use Rattle.conda_version.specs.Text.{is_nil, skip_blanks};
-    ghost use Rattle.match_spec.specs.Passage.{
-      begun,
-      behind,
-      beyond,
-      ended,
-      front,
-      passage_in,
-      passage_there,
-      trimmed,
-      until,
-    };
+    ghost use Rattle.match_spec.specs.Passage.{begun, behind, beyond, ended, front, trimmed, until};
+    ghost use Rattle.match_spec.specs.Seen.{passage_in, passage_there};
 
     // The whole of a text.
     pub(crate) fn of(text: &'a [u8]) -> Passage<'a>

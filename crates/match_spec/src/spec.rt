@@ -26,49 +26,37 @@ impl Model for Spec {
 
     ghost Value = { Meaning };
 
+    ghost use Rattle.match_spec.specs.Legal.{IsSpec};
+
     ghost view = { λ s. record { name = s.name; parts = s.parts } };
+
+    ghost invariant = { λ s. IsSpec (record { name = s.name; parts = s.parts }) };
 }
 
 impl Spec {
     ghost use Rattle.gateway_words.specs.Reading.{Gives};
     ghost use Rattle.conda_record.specs.View.{seen};
     ghost use Rattle.match_spec.specs.Matching.{Matches, matches};
-    ghost use Rattle.match_spec.specs.Reading.{fault_of, spec_of, with_bracket};
-    ghost use Rattle.match_spec.specs.Passage.{passage_there};
+    ghost use Rattle.match_spec.specs.Legal.{IsSpec};
+    ghost use Rattle.match_spec.specs.Reading.{fault_of, spec_of};
 
     /// The spec that a text spells.
     ///
     /// A text is read in steps, and the first refusal is answered: `Empty`, `Bracket`, `NoName`,
     /// `Name`, `Build` and `Version` of what stands behind the name, then `Key` and `Value` of the
     /// bracket's parts from left to right.
-    #[tactic(auto, unfolding(crate::specs::Reading::spec_of))]
     pub fn read(alloc: Global, text: &str) -> Result<Spec, SpecRefusal>
         ensures exact { Gives (λ s. s) fault_of result (spec_of text.now) }
     {
-        let p = Passage::of(text.as_bytes()).trimmed();
-        if p.text.is_empty() {
-            return Err(SpecRefusal::Fault(SpecFault::Empty));
-        }
-        let halves = Halves::of(p)?;
-        let (name, outer) = read_outside(alloc, halves.outside)?;
-        Spec::with_bracket(alloc, halves.inside, name, outer)
+        let (name, parts) = read_all(alloc, text.as_bytes())?;
+        Ok(Spec { name, parts })
     }
 
-    // The spec with a name and the parts outside its bracket, and with those of the bracket.
-    fn with_bracket(
-        alloc: Global,
-        inside: Option<Passage<'_>>,
-        name: Name,
-        outer: Parts,
-    ) -> Result<Spec, SpecRefusal>
-        ensures { Gives (λ s. s) fault_of result
-            (with_bracket (passage_there inside.entry) (record { name = name; parts = outer })) }
+    /// Each part of the spec is of its form (`specs/Legal`). The call does nothing.
+    pub fn tell(&self)
+        ensures { IsSpec self.now }
     {
-        let inner = read_bracket(alloc, inside)?;
-        Ok(Spec {
-            name,
-            parts: inner.or(outer),
-        })
+        let _ = &self.name;
     }
 
     /// The name, in lower case.
@@ -92,11 +80,45 @@ impl Spec {
     // The name, then each part.
     #[tactic(auto, unfolding(crate::specs::Matching::matches))]
     fn fits(&self, view: RecordView<'_>, channel: &str, subdir: &str, file: &str) -> bool
-        ensures { result ≡ matches self.now (seen view.entry) channel.now subdir.now file.now }
+        ensures exact { result
+            ≡ matches self.now (seen view.entry) channel.now subdir.now file.now }
+        ensures legal { IsSpec self.now }
     {
         same_name(view.name(), &self.name)
             && self.parts.fits_version(view)
             && self.parts.fits_digests(view)
             && self.parts.fits_place(channel, subdir, file)
     }
+}
+
+ghost use Rattle.gateway_words.specs.Reading.{Gives};
+ghost use Rattle.match_spec.specs.Reading.{fault_of, spec_of, with_bracket};
+ghost use Rattle.match_spec.specs.Seen.{passage_there};
+
+// The name and the parts that a text spells.
+#[tactic(auto, unfolding(crate::specs::Reading::spec_of))]
+fn read_all(alloc: Global, text: &[u8]) -> Result<(Name, Parts), SpecRefusal>
+    ensures { Gives (λ r. record { name = r.0; parts = r.1 }) fault_of result (spec_of text.now) }
+{
+    let p = Passage::of(text).trimmed();
+    if p.text.is_empty() {
+        return Err(SpecRefusal::Fault(SpecFault::Empty));
+    }
+    let halves = Halves::of(p)?;
+    let (name, outer) = read_outside(alloc, halves.outside)?;
+    with_bracket(alloc, halves.inside, name, outer)
+}
+
+// The name, and the parts outside the bracket with those of the bracket.
+fn with_bracket(
+    alloc: Global,
+    inside: Option<Passage<'_>>,
+    name: Name,
+    outer: Parts,
+) -> Result<(Name, Parts), SpecRefusal>
+    ensures { Gives (λ r. record { name = r.0; parts = r.1 }) fault_of result
+        (with_bracket (passage_there inside.entry) (record { name = name; parts = outer })) }
+{
+    let inner = read_bracket(alloc, inside)?;
+    Ok((name, inner.or(outer)))
 }

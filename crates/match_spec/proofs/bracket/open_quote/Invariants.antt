@@ -1,6 +1,6 @@
 use Rattle.std.proofs.Common.{◌≡◌, ◌≤◌, ℕ}
 use Rattle.match_spec.specs.Bracket.{entries, entries_within, open_quote}
-use Rattle.match_spec.specs.Passage.{passage_in, passage_there}
+use Rattle.match_spec.specs.Seen.{passage_in, passage_there}
 use Rattle.match_spec.proofs.EntryLemmas.{left_len}
 use Rattle.match_spec.proofs.bracket.open_quote.Given as goal
 

@@ -1,6 +1,6 @@
 use Rattle.std.proofs.Common.{suc, length, sym, ap, arith}
 use Rattle.match_spec.specs.Bracket.{entries}
-use Rattle.match_spec.specs.Passage.{passage_in}
+use Rattle.match_spec.specs.Seen.{passage_in}
 use Rattle.match_spec.specs.Reading.{with_entries}
 use Rattle.match_spec.proofs.bracket.read_entries.Goals as goal
 

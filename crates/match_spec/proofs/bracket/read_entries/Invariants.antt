@@ -1,7 +1,7 @@
 use Rattle.std.proofs.Common.{◌≡◌, ◌≤◌, ℕ}
 use Rattle.match_spec.specs.Bracket.{entries, entries_within}
 use Rattle.match_spec.specs.Parts.{no_parts}
-use Rattle.match_spec.specs.Passage.{passage_in, passage_there}
+use Rattle.match_spec.specs.Seen.{passage_in, passage_there}
 use Rattle.match_spec.specs.Reading.{with_entries}
 use Rattle.match_spec.proofs.EntryLemmas.{left_len}
 use Rattle.match_spec.proofs.bracket.read_entries.Given as goal

@@ -1,7 +1,6 @@
 use Rattle.std.proofs.Common.{◌≡◌, ◌+◌, ◌++◌, length}
 use Rattle.std.specs.Prelude.{filter, IfSome}
-use Rattle.match_spec.specs.Kept.{blanks_stay, placed_from, stays}
-use Rattle.match_spec.specs.declared.kept.Placed.{Placed}
+use Rattle.match_spec.specs.Kept.{Placed, blanks_stay, placed_from, stays}
 use Rattle.match_spec.proofs.kept.kept.Given as goal
 
 abbrev pub invariant-bytes : goal.invariant-bytes
