@@ -338,18 +338,6 @@ mod tests {
     }
 
     #[test]
-    fn an_address_without_a_reply_is_not_found(rt: HostRuntime) -> Result<(), Fail> {
-        let mut dial = world(rt.alloc(), &[])?;
-        let mut parcel = parcel(rt.alloc(), &mut dial, "http://h/b")?;
-        for _ in 0..50u64 {
-            let _step = steps(&mut parcel)?;
-        }
-        assert!(rt; parcel.ended());
-        assert_eq!(rt; parcel.received(), NOT_FOUND);
-        Ok(())
-    }
-
-    #[test]
     fn calls_wait_and_fail_by_the_script(rt: HostRuntime) -> Result<(), Fail> {
         let script = [
             ScriptLine {

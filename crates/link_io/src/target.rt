@@ -79,25 +79,4 @@ mod tests {
         assert!(rt; first != second);
         Ok(())
     }
-
-    #[test]
-    fn targets_are_equal_where_key_and_address_are(rt: HostRuntime) -> Result<(), Fail> {
-        let url = HttpUrl::read(rt.alloc(), "http://h/a")
-            .ok()
-            .ok_or("it is an address")?;
-        let other = HttpUrl::read(rt.alloc(), "http://h/b")
-            .ok()
-            .ok_or("it is an address")?;
-        let target = Target {
-            key: Key::Shard(Digest([1; 32])),
-            url,
-        };
-        let moved = Target {
-            key: Key::Shard(Digest([1; 32])),
-            url: other,
-        };
-        assert!(rt; target.copy(rt.alloc())? == target);
-        assert!(rt; target != moved);
-        Ok(())
-    }
 }

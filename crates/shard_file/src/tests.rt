@@ -53,8 +53,16 @@ const FAULTS: [(&[u8], FaultKind, u64); 52] = [
     (b"\x81\xa8packages\xdf\xff\xff\xff\xff", Short, 15),
     (b"\x81\xaepackages.conda\xdf\xff\xff\xff\xff", Short, 21),
     (b"\x81\xa8packages\x81\xa1a\xdf\xff\xff\xff\xff", Short, 18),
-    (b"\x81\xa8packages\x81\xa1a\x81\xa7depends\xdd\xff\xff\xff\xff", Short, 27),
-    (b"\x81\xa8packages\x81\xa1a\x81\xaaconstrains\xdd\xff\xff\xff\xff", Short, 30),
+    (
+        b"\x81\xa8packages\x81\xa1a\x81\xa7depends\xdd\xff\xff\xff\xff",
+        Short,
+        27,
+    ),
+    (
+        b"\x81\xa8packages\x81\xa1a\x81\xaaconstrains\xdd\xff\xff\xff\xff",
+        Short,
+        30,
+    ),
     (b"\x81\xa7removed\xdd\xff\xff\xff\xff", Short, 14),
     // The byte that is never used.
     (b"\xc1", Reserved, 0),
@@ -336,7 +344,11 @@ fn has_optional_spans(bytes: &[u8], row: &FileSpans, view: RecordView<'_>) -> bo
 // Whether the text at this place of each list stands where the record's spans say.
 fn has_listed_spans(bytes: &[u8], row: &FileSpans, view: RecordView<'_>, i: usize) -> bool {
     stands_at(bytes, row.value.span(Field::Depend(i)), view.depend(i))
-        && stands_at(bytes, row.value.span(Field::Constrain(i)), view.constrain(i))
+        && stands_at(
+            bytes,
+            row.value.span(Field::Constrain(i)),
+            view.constrain(i),
+        )
 }
 
 #[test]
