@@ -41,17 +41,17 @@ bind-ok (Ok x) f q e = (x, refl, e)
 bind-ok (Err g) f q e = cc e
 
 -- a reading that is refused where something is so
-unless-so : {A : Type 0} (so : Bool) (f : SpecFault) (r : Read A) (q : A) → (if so then Err f else r) ≡ Ok q → (so ≡ false) × (r ≡ Ok q)
+pub unless-so : {A : Type 0} (so : Bool) (f : SpecFault) (r : Read A) (q : A) → (if so then Err f else r) ≡ Ok q → (so ≡ false) × (r ≡ Ok q)
 unless-so true f r q e = cc e
 unless-so false f r q e = (refl, e)
 
 -- a reading that is refused where something isn't so
-where-so : {A : Type 0} (so : Bool) (f : SpecFault) (r : Read A) (q : A) → (if so then r else Err f) ≡ Ok q → (so ≡ true) × (r ≡ Ok q)
+pub where-so : {A : Type 0} (so : Bool) (f : SpecFault) (r : Read A) (q : A) → (if so then r else Err f) ≡ Ok q → (so ≡ true) × (r ≡ Ok q)
 where-so true f r q e = (refl, e)
 where-so false f r q e = cc e
 
 -- what was given is the only thing
-same-ok : {A : Type 0} (x y : A) → ◌≡◌ {A = Read A} (Ok x) (Ok y) → x ≡ y
+pub same-ok : {A : Type 0} (x y : A) → ◌≡◌ {A = Read A} (Ok x) (Ok y) → x ≡ y
 same-ok x y e = cc e
 
 -- ---- what each part is
