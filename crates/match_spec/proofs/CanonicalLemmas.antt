@@ -31,7 +31,8 @@ use Rattle.match_spec.specs.Comparison as comparison
 use Rattle.match_spec.specs.Key.{Key}
 use Rattle.match_spec.specs.Key as key
 use Rattle.match_spec.specs.Legal.{IsSpec}
-use Rattle.match_spec.specs.Number.{NumberTest, comparison_of, decimal_from, number_of, number_test, test_by}
+use Rattle.conda_version.specs.Runs.{decimal_from}
+use Rattle.match_spec.specs.Number.{NumberTest, comparison_of, number_of, number_test, test_by}
 use Rattle.match_spec.specs.Parts.{Meaning, Parts, no_parts, part_or, replaced}
 use Rattle.match_spec.specs.Passage.{Passage, begun, behind, behind_by, beyond, front, front_by, trimmed, until}
 use Rattle.match_spec.specs.Reading.{Read, behind_colons, bracket_of, build_or, constraint_or, digest_or, has, is_build, key_of, named, named_before, named_by, new_key, or_fault, outside_by, outside_of, spec_in, spec_of, text_or, unless_refused, with_bracket, with_cut_value, with_entries, with_entry, with_pair, with_rest, with_value}

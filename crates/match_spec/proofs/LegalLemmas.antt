@@ -24,7 +24,8 @@ use Rattle.match_spec.specs.Key.{Key}
 use Rattle.match_spec.specs.Key as key
 use Rattle.match_spec.specs.Kept.{Placed, bytes_of, form_constraint, form_of, kept, place_of_last}
 use Rattle.match_spec.specs.Legal.{IsSpec}
-use Rattle.match_spec.specs.Number.{NumberTest, comparison_of, decimal_from, number_of, number_test, test_by}
+use Rattle.conda_version.specs.Runs.{decimal_from}
+use Rattle.match_spec.specs.Number.{NumberTest, comparison_of, number_of, number_test, test_by}
 use Rattle.match_spec.specs.Parts.{Meaning, Parts, no_parts, part_or, replaced}
 use Rattle.match_spec.specs.Passage.{Passage, begun, behind, ended, trimmed}
 use Rattle.match_spec.specs.Reading.{Read, before_colons, bracket_of, build_or, constraint_or, digest_or, is_build, key_of, may_follow, named, named_before, new_key, or_fault, outside_by, outside_of, place_by, place_of, slot_of, spec_of, text_or, with_both, with_bracket, with_build, with_cut_value, with_entries, with_entry, with_form, with_pair, with_rest, with_two, with_value, with_version, with_words}
@@ -40,17 +41,17 @@ bind-ok (Ok x) f q e = (x, refl, e)
 bind-ok (Err g) f q e = cc e
 
 -- a reading that is refused where something is so
-unless-so : {A : Type 0} (so : Bool) (f : SpecFault) (r : Read A) (q : A) → (if so then Err f else r) ≡ Ok q → (so ≡ false) × (r ≡ Ok q)
+pub unless-so : {A : Type 0} (so : Bool) (f : SpecFault) (r : Read A) (q : A) → (if so then Err f else r) ≡ Ok q → (so ≡ false) × (r ≡ Ok q)
 unless-so true f r q e = cc e
 unless-so false f r q e = (refl, e)
 
 -- a reading that is refused where something isn't so
-where-so : {A : Type 0} (so : Bool) (f : SpecFault) (r : Read A) (q : A) → (if so then r else Err f) ≡ Ok q → (so ≡ true) × (r ≡ Ok q)
+pub where-so : {A : Type 0} (so : Bool) (f : SpecFault) (r : Read A) (q : A) → (if so then r else Err f) ≡ Ok q → (so ≡ true) × (r ≡ Ok q)
 where-so true f r q e = (refl, e)
 where-so false f r q e = cc e
 
 -- what was given is the only thing
-same-ok : {A : Type 0} (x y : A) → ◌≡◌ {A = Read A} (Ok x) (Ok y) → x ≡ y
+pub same-ok : {A : Type 0} (x y : A) → ◌≡◌ {A = Read A} (Ok x) (Ok y) → x ≡ y
 same-ok x y e = cc e
 
 -- ---- what each part is
@@ -103,7 +104,7 @@ replaced-are inner outer i o name n =
       is_file = or-so (λ wanted. is_nil wanted ≡ false) inner.file outer.file a.is_file b.is_file;
     }
 
--- parts with one more
+-- parts with a constraint
 version-more : (parts : Parts) (c : List ℕ) → constraint_fault c ≡ None → AreParts parts → AreParts (record parts { version = Some c })
 version-more parts c h p name n =
     let s = p name n in record {
@@ -118,6 +119,7 @@ version-more parts c h p name n =
       is_file = s.is_file;
     }
 
+-- a build
 build-more : (parts : Parts) (b : List ℕ) → is_build b ≡ true → AreParts parts → AreParts (record parts { build = Some b })
 build-more parts b h p name n =
     let s = p name n in record {
@@ -132,6 +134,7 @@ build-more parts b h p name n =
       is_file = s.is_file;
     }
 
+-- a test of build numbers
 number-more : (parts : Parts) (t : NumberTest) → t.number < 2 ^ 64 → AreParts parts → AreParts (record parts { build_number = Some t })
 number-more parts t h p name n =
     let s = p name n in record {
@@ -146,6 +149,7 @@ number-more parts t h p name n =
       is_file = s.is_file;
     }
 
+-- a channel
 channel-more : (parts : Parts) (t : List ℕ) → is_nil t ≡ false → AreParts parts → AreParts (record parts { channel = Some t })
 channel-more parts t h p name n =
     let s = p name n in record {
@@ -160,6 +164,7 @@ channel-more parts t h p name n =
       is_file = s.is_file;
     }
 
+-- a subdir
 subdir-more : (parts : Parts) (t : List ℕ) → is_nil t ≡ false → AreParts parts → AreParts (record parts { subdir = Some t })
 subdir-more parts t h p name n =
     let s = p name n in record {
@@ -174,6 +179,7 @@ subdir-more parts t h p name n =
       is_file = s.is_file;
     }
 
+-- a digest of 16 bytes
 md5-more : (parts : Parts) (d : List ℕ) → (length d ≡ 16) × IsBytes d → AreParts parts → AreParts (record parts { md5 = Some d })
 md5-more parts d h p name n =
     let s = p name n in record {
@@ -188,6 +194,7 @@ md5-more parts d h p name n =
       is_file = s.is_file;
     }
 
+-- a digest of 32 bytes
 sha256-more : (parts : Parts) (d : List ℕ) → (length d ≡ 32) × IsBytes d → AreParts parts → AreParts (record parts { sha256 = Some d })
 sha256-more parts d h p name n =
     let s = p name n in record {
@@ -202,6 +209,7 @@ sha256-more parts d h p name n =
       is_file = s.is_file;
     }
 
+-- a file name
 file-more : (parts : Parts) (t : List ℕ) → is_nil t ≡ false → AreParts parts → AreParts (record parts { file = Some t })
 file-more parts t h p name n =
     let s = p name n in record {

@@ -8,3 +8,4 @@ pub mod TextLemmas
 pub mod LegalLemmas
 pub mod CanonicalLemmas
 pub mod BlankLemmas
+pub mod SwapLemmas

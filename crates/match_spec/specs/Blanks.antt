@@ -1,5 +1,5 @@
 -- What a blank in front of a spec changes: the places of faults, and nothing else (docs/FORMATS.md, "Specs").
-use Rattle.std.specs.Prelude.{ℕ, ◌+◌, Ok, Err}
+use Rattle.std.specs.Prelude.{◌+◌, Ok, Err}
 use Rattle.match_spec.specs.Parts.{Meaning}
 use Rattle.match_spec.specs.Reading.{Read}
 use Rattle.match_spec.specs.declared.fault.SpecFault.{SpecFault}

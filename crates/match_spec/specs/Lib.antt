@@ -22,5 +22,6 @@ pub use Rattle.conda_record.specs.View
 pub use Rattle.conda_version.specs.Allowing
 pub use Rattle.conda_version.specs.Constraint
 pub use Rattle.conda_version.specs.Leaf
+pub use Rattle.conda_version.specs.Runs
 pub use Rattle.conda_version.specs.Text
 pub use Rattle.conda_version.specs.Tree

@@ -1,8 +1,9 @@
 -- Build numbers and comparisons with them (docs/FORMATS.md, "Specs").
-use Rattle.std.specs.Prelude.{ℕ, ◌+◌, ◌-◌, ◌*◌, ◌^◌, ◌==◌, ◌&&◌, nat_lt, nat_le, not, Bool, List, [], ◌∷◌, codes, Option, Some, None, if◌then◌else◌}
+use Rattle.std.specs.Prelude.{ℕ, ◌^◌, ◌==◌, ◌&&◌, nat_lt, nat_le, not, Bool, List, codes, Option, Some, None, if◌then◌else◌}
 use Rattle.std.specs.Char.{is_ascii_digit}
 use Rattle.std.specs.List.{list_all}
 use Rattle.conda_version.specs.Leaf.{behind_signs, is_text, signs}
+use Rattle.conda_version.specs.Runs.{decimal_from}
 use Rattle.conda_version.specs.Text.{is_nil}
 use Rattle.match_spec.specs.Comparison.{Comparison}
 use Rattle.match_spec.specs.Comparison as comparison
@@ -36,11 +37,6 @@ comparison_of run =
     else if is_text run (codes ">") then Some comparison.greater
     else if is_text run (codes ">=") then Some comparison.at_least
     else None
-
--- the number that some digits are, behind others that are n
-abbrev pub decimal_from : ℕ → List ℕ → ℕ
-decimal_from n [] = n
-decimal_from n (b ∷ rest) = decimal_from (n * 10 + (b - 0x30)) rest
 
 -- the number that a text is: one or more digits, whose value is at most 2 ^ 64 - 1
 abbrev pub number_of : List ℕ → Option ℕ

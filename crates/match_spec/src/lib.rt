@@ -23,7 +23,8 @@ mod version;
 
 pub use fault::{SpecFault, SpecRefusal};
 pub use laws::{
-    a_blank_in_front_of_a_spec_moves_places, a_canonical_spec_is_read, what_is_read_is_a_spec,
+    a_blank_in_front_of_a_spec_moves_places, a_canonical_spec_is_read,
+    parts_of_a_bracket_may_change_places, what_is_read_is_a_spec,
 };
 pub use spec::Spec;
 

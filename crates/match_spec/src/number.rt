@@ -51,7 +51,8 @@ impl NumberTest {
     }
 }
 
-ghost use Rattle.match_spec.specs.Number.{comparison_of, decimal_from, number_of};
+ghost use Rattle.conda_version.specs.Runs.{decimal_from};
+ghost use Rattle.match_spec.specs.Number.{comparison_of, number_of};
 ghost use Rattle.match_spec.specs.Seen.{comparison_there};
 
 // The comparison that a run of signs is, if it is one; none means equal.

@@ -1,5 +1,5 @@
 use Rattle.std.proofs.Common.{◌≡◌, ◌<◌, ◌^◌, length}
-use Rattle.match_spec.specs.Number.{decimal_from}
+use Rattle.conda_version.specs.Runs.{decimal_from}
 use Rattle.match_spec.proofs.number.decimal.Given as goal
 
 abbrev pub invariant-digits : goal.invariant-digits
