@@ -337,7 +337,11 @@ fn has_optional_spans(bytes: &[u8], row: &FileSpans, view: RecordView<'_>) -> bo
 // Whether the text at this place of each list stands where the record's spans say.
 fn has_listed_spans(bytes: &[u8], row: &FileSpans, view: RecordView<'_>, i: usize) -> bool {
     stands_at(bytes, row.value.span(Field::Depend(i)), view.depend(i))
-        && stands_at(bytes, row.value.span(Field::Constrain(i)), view.constrain(i))
+        && stands_at(
+            bytes,
+            row.value.span(Field::Constrain(i)),
+            view.constrain(i),
+        )
 }
 
 #[test]
