@@ -1,5 +1,5 @@
 -- What stands at the places of a record, in the bytes in which they were read, is the record.
-use Rattle.std.proofs.Common.{◌≡◌, refl, sym, ◌∙◌, ap, ℕ, zero, suc, ◌+◌, ◌<◌, ◌≤◌, ◌/◌, ◌%◌, Bool, true, false, cond, nat_eq, List, [], ◌∷◌, ◌++◌, length, drop, map, replicate, arith}
+use Rattle.std.proofs.Common.{◌≡◌, refl, sym, ◌∙◌, ap, ℕ, zero, suc, ◌+◌, ◌<◌, ◌/◌, ◌%◌, Bool, true, false, cond, nat_eq, List, [], ◌∷◌, length, map, arith}
 use Rattle.std.specs.Prelude.{Result, Ok, Err, Option, Some, None, option_map, option_and_then, unwrap_or, slice_index_or, nat_le}
 use Rattle.std.specs.Str.{is_utf8}
 use Rattle.std.specs.Result.{result_ok}
@@ -7,17 +7,16 @@ use Rattle.std.proofs.lemmas.Bool.{eqb-true, eq-eqb}
 use Rattle.std.proofs.lemmas.Option.{slice_get-map}
 use Rattle.hex.specs.Hex.{decode_sized, decode_pairs}
 use Rattle.hex.specs.declared.error.FromHexError.TheVariants.{OddLength, InvalidStringLength}
-use Rattle.gateway_words.specs.Places.{Position, Between}
+use Rattle.gateway_words.specs.Places.{Position}
 use Rattle.gateway_words.specs.Reading.{◌>>=◌}
 use Rattle.mp_codec.specs.declared.fault.FormatFault.{FormatFault}
 use Rattle.mp_codec.specs.declared.head.Head.{Head}
 use Rattle.mp_codec.specs.declared.head.Head.TheVariants as head
 use Rattle.mp_codec.specs.declared.span.Span.{Span}
-use Rattle.mp_codec.specs.Value.{array_len, str_of}
+use Rattle.mp_codec.specs.Value.{array_len}
 use Rattle.mp_codec.specs.Reading.{head_from, bytes_from, values_from}
-use Rattle.mp_codec.specs.Maps.{Read, skipped, text_from, str_from, number_from, known_map_from}
+use Rattle.mp_codec.specs.Maps.{Read, text_from, str_from, number_from, known_map_from}
 use Rattle.mp_codec.specs.Span.{IsIn, Placed, placed_if, part_of, text_or_none as part_or_none, text_at, span_before, span_from, placed_str_from}
-use Rattle.mp_codec.proofs.BindLemmas.{bind_ok}
 use Rattle.mp_codec.proofs.MappedLemmas.{turned, known_map_turned}
 use Rattle.mp_codec.proofs.PlaceLemmas.{TakesBytes, bytes_taken}
 use Rattle.mp_codec.proofs.PlacedLemmas.{judged_stays, turned_from, turned_key, known_map_same}
@@ -25,13 +24,13 @@ use Rattle.mp_codec.proofs.ReaderLemmas.{str_found}
 use Rattle.mp_codec.proofs.SpanLemmas.{head_stays, part_between, padded, padded_in, text_spans, text_in as text_stays, str_spans}
 use Rattle.conda_record.specs.Record.{Fields, record_keys, RecordFault, RecordAt}
 use Rattle.conda_record.specs.Texts.{text_in, tried, each_from, listed_or_skipped, listed_from}
-use Rattle.conda_record.specs.Digests.{digest_in, digest_by, digest_from, digest_in_bytes, digest_at, span_behind, payload_span, digest_span_by, digest_span_from}
+use Rattle.conda_record.specs.Digests.{digest_in, digest_by, digest_from, digest_in_bytes, digest_at, span_behind, digest_span_by, digest_span_from}
 use Rattle.conda_record.specs.Reading.{Kind, text, number, optional_text, texts, digest, Datum, Text, Number, OptionalText, Texts, Digest, kinds, required, optional_text_from, datum_by, datum_from, text_or_none, number_in, optional_text_in, texts_in, digest_in as digest_kept, fields_from, record_from}
 use Rattle.conda_record.specs.declared.spans.Field.{Field}
 use Rattle.conda_record.specs.declared.spans.Field.TheVariants as field
 use Rattle.conda_record.specs.Places.{Places, fields_at, span_of, text_of_field}
 use Rattle.conda_record.specs.Placing.{Place, TextAt, NumberIs, OptionalTextAt, TextsAt, DigestAt, span_if_text, optional_span_from, place_by, place_from, span_or_none, number_in as number_kept, optional_span_in, spans_in, digest_span_in, places_in, places_end_from, places_from}
-use Rattle.conda_record.proofs.RecordLemmas.{asked, datum, each, IsRecord, record_is, record_judged, record_found, record_first}
+use Rattle.conda_record.proofs.RecordLemmas.{asked, datum, each, IsRecord, record_is, record_judged, record_found}
 
 -- ---- texts, digests and lists at their places
 

@@ -99,5 +99,8 @@ fn payload_span(cur: &mut Cursor<'_>, len: u32) -> Result<Span, FormatFault>
 {
     let start = cur.at();
     cur.take(len)?;
-    Ok(Span { start, end: cur.at() })
+    Ok(Span {
+        start,
+        end: cur.at(),
+    })
 }

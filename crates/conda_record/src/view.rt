@@ -150,10 +150,7 @@ impl<'a> RecordView<'a> {
     {
         match self.shown {
             Shown::Record(record) => record.constrains.get(i).map(|text| text.as_str()),
-            Shown::Spans(spans, bytes) => text_if(
-                bytes,
-                spans.constrains.get(i).copied(),
-            ),
+            Shown::Spans(spans, bytes) => text_if(bytes, spans.constrains.get(i).copied()),
         }
     }
 

@@ -15,7 +15,7 @@ use Rattle.mp_codec.specs.Reading.{values_from}
 use Rattle.mp_codec.specs.Maps.{Read, skipped, str_from, map_head_from, map_from, place_of, unread, entries_from, known_key_from, known_value_from, known_end_from, known_map_from}
 use Rattle.mp_codec.specs.Span.{IsIn}
 use Rattle.mp_codec.proofs.BindLemmas.{BoundOk, bound_ok, bind_ok}
-use Rattle.mp_codec.proofs.HeadLemmas.{ok_first, ok_second}
+use Rattle.mp_codec.proofs.HeadLemmas.{ok_second}
 use Rattle.mp_codec.proofs.PassingLemmas.{passed_value}
 use Rattle.mp_codec.proofs.JudgingLemmas.{Reads, JudgesOne}
 use Rattle.mp_codec.proofs.ReaderLemmas.{judged_reads, str_found, map_found}

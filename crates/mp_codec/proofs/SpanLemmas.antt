@@ -10,14 +10,12 @@ use Rattle.gateway_words.specs.Places.{Position, Between}
 use Rattle.mp_codec.specs.declared.fault.FormatFault.{FormatFault}
 use Rattle.mp_codec.specs.declared.head.Head.{Head}
 use Rattle.mp_codec.specs.declared.head.Head.TheVariants as head
-use Rattle.mp_codec.specs.declared.span.Span.{Span}
 use Rattle.mp_codec.specs.Value.{Value, value, Values, none, more, count, str_of}
 use Rattle.mp_codec.specs.Spelling.{HeadLies, Lies}
 use Rattle.mp_codec.specs.Fault.{TextFault, ValueLies}
 use Rattle.mp_codec.specs.Reading.{Steps, head_from, bytes_from}
 use Rattle.mp_codec.specs.Maps.{text_from}
 use Rattle.mp_codec.specs.Span.{IsIn, part_of, text_or_none, text_at, span_before, span_from}
-use Rattle.gateway_words.specs.Reading.{◌>>=◌}
 use Rattle.mp_codec.proofs.BindLemmas.{bind_ok}
 use Rattle.mp_codec.proofs.CursorLemmas.{head_found, take_found}
 use Rattle.mp_codec.proofs.LeafLemmas.{IsText, text_judged}

@@ -1,9 +1,9 @@
-use Rattle.std.proofs.Common.{◌≡◌, sym, ◌∙◌, ap, ◌+◌, ◌-◌, List, [], ◌∷◌, ◌++◌}
+use Rattle.std.proofs.Common.{sym, ◌∙◌, ap, ◌+◌, ◌-◌, List}
 use Rattle.std.proofs.lemmas.Result.{err_from_is_err_and}
 use Rattle.mp_codec.specs.declared.span.Span.{Span}
 use Rattle.mp_codec.specs.Span.{span_from}
 use Rattle.conda_record.specs.Placing.{spans_at}
-use Rattle.conda_record.proofs.TextLoop.{in_front, each_goes_on, each_stops, each_done, no_front}
+use Rattle.conda_record.proofs.TextLoop.{in_front, each_goes_on, each_stops, each_done}
 use Rattle.conda_record.proofs.value.spans.Goals as goal
 
 pub returns-in_err-text_span : goal.returns-in_err-text_span

@@ -1,9 +1,8 @@
-use Rattle.std.proofs.Common.{◌≡◌, sym, ◌∙◌, ap, ℕ, List, true, cond, Ok}
-use Rattle.std.specs.Prelude.{Option, Some, unwrap_or}
+use Rattle.std.proofs.Common.{sym, ◌∙◌, ap, ℕ, Ok}
+use Rattle.std.specs.Prelude.{Option, unwrap_or}
 use Rattle.mp_codec.specs.declared.span.Span.{Span}
-use Rattle.mp_codec.specs.Maps.{known_end_from}
-use Rattle.conda_record.specs.Placing.{TextAt, span_or_none, places_end_from}
-use Rattle.conda_record.specs.Found.{kept, known}
+use Rattle.conda_record.specs.Placing.{TextAt, span_or_none}
+use Rattle.conda_record.specs.Found.{kept}
 use Rattle.conda_record.proofs.FoundLemmas.{number_is, optional_text_is, digest_is, ends}
 use Rattle.conda_record.proofs.reading.Found.finish.Goals as goal
 
@@ -11,18 +10,21 @@ pub returns : goal.returns
 returns c =
     let f = c.args.self.now in
     let is = c.in-Some-Some-Some in
-    ends f c.args.cur.now is.name is.version is.build is.is-0 is.is-1 is.is-2 ∙ (λ i. Ok (record {
-      name = ap (λ (o : Option Span). span_or_none (kept TextAt o)) is.is-0 i;
-      version = ap (λ (o : Option Span). span_or_none (kept TextAt o)) is.is-1 i;
-      build = ap (λ (o : Option Span). span_or_none (kept TextAt o)) is.is-2 i;
-      build_number = (ap (λ (o : Option ℕ). unwrap_or o 0) (number_is f.build_number ∙ sym c.flatten.ensures) ∙ sym c.unwrap_or.ensures) i;
-      depends = (sym c.listed.ensures) i;
-      constrains = (sym c.listed-2.ensures) i;
-      subdir = (optional_text_is f.subdir ∙ sym c.flatten-2.ensures) i;
-      md5 = (digest_is f.md5 ∙ sym c.flatten-3.ensures) i;
-      sha256 = (digest_is f.sha256 ∙ sym c.flatten-4.ensures) i;
-      size = (number_is f.size ∙ sym c.flatten-5.ensures) i;
-      timestamp = (number_is f.timestamp ∙ sym c.flatten-6.ensures) i;
-      license = (optional_text_is f.license ∙ sym c.flatten-7.ensures) i;
-      noarch = (optional_text_is f.noarch ∙ sym c.flatten-8.ensures) i;
-    }, c.args.cur.now))
+    ends f c.args.cur.now is.name is.version is.build is.is-0 is.is-1 is.is-2 ∙ (λ i. Ok (
+      record {
+        name = ap (λ (o : Option Span). span_or_none (kept TextAt o)) is.is-0 i;
+        version = ap (λ (o : Option Span). span_or_none (kept TextAt o)) is.is-1 i;
+        build = ap (λ (o : Option Span). span_or_none (kept TextAt o)) is.is-2 i;
+        build_number = (ap (λ (o : Option ℕ). unwrap_or o 0) (number_is f.build_number ∙ sym c.flatten.ensures) ∙ sym c.unwrap_or.ensures) i;
+        depends = (sym c.listed.ensures) i;
+        constrains = (sym c.listed-2.ensures) i;
+        subdir = (optional_text_is f.subdir ∙ sym c.flatten-2.ensures) i;
+        md5 = (digest_is f.md5 ∙ sym c.flatten-3.ensures) i;
+        sha256 = (digest_is f.sha256 ∙ sym c.flatten-4.ensures) i;
+        size = (number_is f.size ∙ sym c.flatten-5.ensures) i;
+        timestamp = (number_is f.timestamp ∙ sym c.flatten-6.ensures) i;
+        license = (optional_text_is f.license ∙ sym c.flatten-7.ensures) i;
+        noarch = (optional_text_is f.noarch ∙ sym c.flatten-8.ensures) i;
+      },
+      c.args.cur.now,
+    ))

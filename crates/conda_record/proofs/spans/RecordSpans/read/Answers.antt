@@ -7,7 +7,7 @@ use Rattle.mp_codec.specs.Fault.{IsFirstFault, WithBreaks}
 use Rattle.mp_codec.proofs.HeadLemmas.{ok_first, ok_second}
 use Rattle.conda_record.specs.Record.{Fields, RecordFault}
 use Rattle.conda_record.specs.Reading.{record_from}
-use Rattle.conda_record.specs.Places.{Places, fields_at}
+use Rattle.conda_record.specs.Places.{fields_at}
 use Rattle.conda_record.specs.Placing.{places_from}
 use Rattle.conda_record.proofs.RecordLemmas.{record_first, record_at_read}
 use Rattle.conda_record.proofs.PlacesLemmas.{places_found, record_at_places, fault_at_places}

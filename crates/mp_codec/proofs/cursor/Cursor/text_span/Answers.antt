@@ -1,8 +1,7 @@
-use Rattle.std.proofs.Common.{◌≡◌, sym, ◌∙◌, ap, length}
+use Rattle.std.proofs.Common.{◌≡◌, sym}
 use Rattle.std.specs.Prelude.{Ok}
 use Rattle.gateway_words.specs.Places.{Position, behind}
 use Rattle.mp_codec.specs.Maps.{text_from}
-use Rattle.mp_codec.specs.Span.{span_before}
 use Rattle.mp_codec.proofs.StrLemmas.{text_read, text_there}
 use Rattle.mp_codec.proofs.SpanLemmas.{span_read}
 use Rattle.mp_codec.proofs.cursor.Cursor.text_span.Goals as goal
