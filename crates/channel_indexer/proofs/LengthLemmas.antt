@@ -17,7 +17,7 @@ use Rattle.conda_record.specs.Record.{Fields, record_keys}
 use Rattle.conda_record.specs.Writing.{record_bytes, values_of, texts_bytes, texts_if_any, IsShort, AreShort, IsWritable}
 use Rattle.shard_file.specs.Rows.{Row, shard_keys}
 use Rattle.shard_file.specs.Writing.{shard_bytes, files_bytes, file_bytes, stands_in, row_cmp, IsWritableRow, AreWritable}
-use Rattle.channel_store.specs.Limits.{most_served_bytes}
+use Rattle.gateway_words.specs.Limits.{most_served_bytes}
 use Rattle.channel_indexer.specs.Groups.{Group, name_in, is_named, rows_under}
 use Rattle.channel_indexer.specs.Indexing.{SaysGroups}
 use Rattle.channel_indexer.specs.Shards.{IsFit}

@@ -2,7 +2,7 @@
 use Rattle.std.specs.Prelude.{◌≡◌, ℕ, ◌<◌, ◌≤◌, ◌^◌, List, [], ◌∷◌, ◌++◌, length, map}
 use Rattle.std.specs.List.{All}
 use Rattle.channel_store.specs.Names.{subdir_of, index_name, shard_name}
-use Rattle.channel_store.specs.Limits.{most_served_bytes}
+use Rattle.gateway_words.specs.Limits.{most_served_bytes}
 use Rattle.digest_gate.specs.declared.digest.Digest.{Digest}
 use Rattle.digest_gate.specs.Digest.{digest_of, text_of}
 use Rattle.shard_file.specs.Writing.{shard_bytes, AreWritable}

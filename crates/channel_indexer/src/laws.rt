@@ -5,7 +5,7 @@ ghost use Rattle.std.specs.List.{All, flat_map};
 ghost use Rattle.std.specs.List.Sorted.{IsPermutation, IsStrictlySortedBy};
 ghost use Rattle.shard_file.specs.Rows.{Row};
 ghost use Rattle.shard_file.specs.Writing.{row_cmp, shard_bytes};
-ghost use Rattle.channel_store.specs.Limits.{most_served_bytes};
+ghost use Rattle.gateway_words.specs.Limits.{most_served_bytes};
 ghost use Rattle.channel_store.specs.Store.{Files};
 ghost use Rattle.channel_indexer.specs.declared.fault.IndexFault.{IndexFault};
 ghost use Rattle.channel_indexer.specs.Groups.{Group, AreGroupsOf, InOrder};

@@ -1,7 +1,7 @@
 //! The limit of the files that a channel serves.
 
 ghost use Rattle.std.specs.Prelude.{◌≡◌};
-ghost use Rattle.channel_store.specs.Limits.{most_served_bytes};
+ghost use Rattle.gateway_words.specs.Limits.{most_served_bytes};
 ghost use Rattle.channel_store.specs.declared.limits.TheConstants.{MOST_SERVED_BYTES};
 
 /// The most bytes of a shard and of an index.

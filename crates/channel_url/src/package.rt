@@ -21,7 +21,8 @@ pub fn package_url(
     base_url: &str,
     file: &str,
 ) -> Result<Text, UrlRefusal>
-    ensures { Gives (λ text. text) url_fault_of result (package_url index.now base_url.now file.now) }
+    ensures { Gives (λ text. text) url_fault_of result
+        (package_url index.now base_url.now file.now) }
 {
     let base_url = short_text(base_url)?;
     let url = joined(alloc, index.as_str(), base_url)?;

@@ -33,7 +33,8 @@ pub(crate) fn parsed(alloc: Global, text: &str) -> Result<Url, UrlRefusal>
 
 // What a text is that is joined to an address.
 pub(crate) fn joined(alloc: Global, address: &str, text: &str) -> Result<Url, UrlRefusal>
-    ensures { Gives (λ url. url) url_fault_of result (parts_or_fault (joined address.now text.now)) }
+    ensures { Gives (λ url. url) url_fault_of result
+        (parts_or_fault (joined address.now text.now)) }
 {
     let base = parsed(alloc, address)?;
     match base.join(text) {

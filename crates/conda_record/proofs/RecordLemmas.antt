@@ -8,6 +8,7 @@ use Rattle.mp_codec.specs.Value.{Value, Pairs, pairs_of, str_of, number_of}
 use Rattle.mp_codec.specs.Fault.{Faults, no_fault, MapFault, MapRules, TextFault, IsFirstFault, WithBreaks}
 use Rattle.mp_codec.specs.Keys.{has_bytes, value_at}
 use Rattle.mp_codec.specs.Maps.{Read, place_of, is_distinct, text_from, known_map_from}
+use Rattle.mp_codec.proofs.FirstLemmas.{one_first}
 use Rattle.mp_codec.proofs.JudgingLemmas.{StandBehind, JudgesOne, Reads, lies_whole}
 use Rattle.mp_codec.proofs.LeafLemmas.{HasNumber, number_judged, IsText, text_judged, text_behind}
 use Rattle.mp_codec.proofs.MapLemmas.{mapped, same_faults, map_behind}
@@ -206,3 +207,13 @@ record_at_read old there r a = go (record_from old) refl (record_judged old)
         let fields : x.0 ≡ r = j.means ∙ ap fields_of same.value ∙ sym a.says in
         e ∙ ap (λ (f : Fields). Ok (f, x.1)) fields ∙ ap (λ (q : Position). Ok (r, q)) same.place
     go (Err f) e j = absurd (elim j.stands [ inl p ↦ a.no_fault f p | inr b ↦ lies_whole old there a.value f a.lies b ])
+
+-- the first fault is read where it stands
+pub first_at_read : (old : Position) (f : FormatFault) → IsFirstFault (WithBreaks RecordFault old) f → record_from old ≡ Err f
+first_at_read old f first = go (record_from old) refl
+  where
+    go : (s : Read Fields) → record_from old ≡ s → record_from old ≡ Err f
+    go (Ok x) e =
+        let a : RecordAt old x.0 x.1 = record_found old x.1 x.0 e in
+        absurd (elim first.stands [ inl p ↦ a.no_fault f p | inr b ↦ lies_whole old x.1 a.value f a.lies b ])
+    go (Err g) e = e ∙ ap Err (one_first (WithBreaks RecordFault old) g f (record_first old g e) first)

@@ -24,7 +24,9 @@ mod writing;
 
 pub use data::is_data;
 pub use from_json::JsonRefusal;
-pub use laws::{a_record_stands_at_its_places, a_written_record_is_read};
+pub use laws::{
+    a_record_stands_at_its_places, a_record_stands_or_has_a_first_fault, a_written_record_is_read,
+};
 pub use record::PackageRecord;
 pub use refusal::RecordRefusal;
 pub use spans::{Field, RecordSpans};

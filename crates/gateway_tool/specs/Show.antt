@@ -8,7 +8,7 @@ use Rattle.match_spec.specs.Parts.{Meaning}
 use Rattle.shard_file.specs.Rows.{Row, ShardOf, ShardFault}
 use Rattle.gateway_tool.specs.declared.note.Note.{Note}
 use Rattle.gateway_tool.specs.declared.note.Note.TheVariants.{Nothing, Shard}
-use Rattle.channel_store.specs.Limits.{most_served_bytes}
+use Rattle.gateway_words.specs.Limits.{most_served_bytes}
 use Rattle.gateway_tool.specs.Status.{status_ok, status_read_fault, status_write_fault, status_out_of_memory, status_too_much_input, status_bad_file, IsOneOf, apart_from_input}
 use Rattle.gateway_tool.specs.Texts.{show_text}
 

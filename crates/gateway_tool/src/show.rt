@@ -2,7 +2,7 @@
 ghost use Rattle.std.specs.Prelude.{◌≡◌, ◌≢◌, ◌+◌, ◌∷◌, [], None, IfSome};
 ghost use Rattle.std.specs.Io.KnownBytes.{IsAtEnd};
 ghost use Rattle.link_io.specs.Transfer.{LosesAtMost};
-ghost use Rattle.channel_store.specs.Limits.{most_served_bytes};
+ghost use Rattle.gateway_words.specs.Limits.{most_served_bytes};
 ghost use Rattle.gateway_tool.specs.Words.{shown_spec};
 ghost use Rattle.gateway_tool.specs.Status.{status_ok, status_usage, status_read_fault, status_write_fault, status_out_of_memory, status_too_much_input, status_bad_file, IsOneOf, RefusesWords, HasStatusCause};
 ghost use Rattle.gateway_tool.specs.Show.{ShowAnswers};

@@ -3,3 +3,4 @@ pub mod Places
 pub mod Reading
 pub mod Causes
 pub mod Sorting
+pub mod Limits

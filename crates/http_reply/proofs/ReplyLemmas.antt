@@ -7,13 +7,14 @@ use Rattle.std.proofs.lemmas.Bool.Decides.{nat_tests}
 use Rattle.httparse.specs.Grammar.{ResponseHead, ReadsResponse, print_response, status_code}
 use Rattle.httparse.specs.Spans.{name_and_value}
 use Rattle.httparse.proofs.GrammarLemmas.{response_unique, ReadsResponse-append}
+use Rattle.gateway_words.specs.Limits.{most_served_bytes}
 use Rattle.http_reply.specs.declared.head.Frame.{Frame}
 use Rattle.http_reply.specs.declared.head.Frame.TheVariants as frame
 use Rattle.http_reply.specs.declared.head.Reply.{Reply}
 use Rattle.http_reply.specs.declared.head.Reply.TheVariants as reply
 use Rattle.http_reply.specs.declared.framing.Framing.{Framing}
 use Rattle.http_reply.specs.declared.framing.Framing.TheVariants as framing
-use Rattle.http_reply.specs.Framing.{Named, body_limit, framing_of}
+use Rattle.http_reply.specs.Framing.{Named, framing_of}
 use Rattle.http_reply.specs.Reply.{head_limit, HasHead, HasNoHead, body_by, reply_by, reply_with, reply_without, IsReplyWith, IsReplyWithout, IsReply, is_settled, IsDecidedAs, framed_bytes, HasBody}
 use Rattle.http_reply.specs.Law.{OneReply, FrontsAreGood, FrontsHaveBody}
 
@@ -104,12 +105,12 @@ body-of-less (framing.Framed (frame.Length m)) len behind less n framed is le = 
     by : (b : Bool) → cond b reply.BadReply (reply.Body len (frame.Length m)) ≡ reply.Body n framed → reply.Body len (frame.Length m) ≡ reply.Body n framed
     by true e = absurd (cc)
     by false e = e
-body-of-less (framing.Framed frame.ToEnd) len behind less n framed is le = by (nat_lt body_limit behind) refl is
+body-of-less (framing.Framed frame.ToEnd) len behind less n framed is le = by (nat_lt most_served_bytes behind) refl is
   where
-    by : (b : Bool) → nat_lt body_limit behind ≡ b → cond b reply.TooLong (reply.Body len frame.ToEnd) ≡ reply.Body n framed
-        → cond (nat_lt body_limit less) reply.TooLong (reply.Body len frame.ToEnd) ≡ reply.Body n framed
+    by : (b : Bool) → nat_lt most_served_bytes behind ≡ b → cond b reply.TooLong (reply.Body len frame.ToEnd) ≡ reply.Body n framed
+        → cond (nat_lt most_served_bytes less) reply.TooLong (reply.Body len frame.ToEnd) ≡ reply.Body n framed
     by true t e = absurd (cc)
-    by false t e = let short : nat_lt body_limit less ≡ false = grind (arith, nat_tests) in ap (λ (b : Bool). cond b reply.TooLong (reply.Body len frame.ToEnd)) short ∙ e
+    by false t e = let short : nat_lt most_served_bytes less ≡ false = grind (arith, nat_tests) in ap (λ (b : Bool). cond b reply.TooLong (reply.Body len frame.ToEnd)) short ∙ e
 
 reply-of-less : (fields : List Named) (status len behind less n : ℕ) (framed : Frame) → reply_by fields status len behind true ≡ reply.Body n framed → less ≤ behind
     → reply_by fields status len less false ≡ reply.Body n framed
@@ -193,7 +194,7 @@ ended-settled received answer (inl w) =
         by : (b : Bool) → nat_lt (size - len) n ≡ b → is_settled size true (cond b reply.BadReply (reply.Body len (frame.Length n))) ≡ true
         by true e = refl
         by false e = grind (arith, nat_tests)
-    of-framing (framing.Framed frame.ToEnd) len size fits = by (nat_lt body_limit (size - len))
+    of-framing (framing.Framed frame.ToEnd) len size fits = by (nat_lt most_served_bytes (size - len))
       where
         by : (b : Bool) → is_settled size true (cond b reply.TooLong (reply.Body len frame.ToEnd)) ≡ true
         by true = refl

@@ -13,12 +13,13 @@ use Rattle.std.proofs.lemmas.List.Elements.{All-cons, All-nil, All-head}
 use Rattle.httparse.specs.Grammar.{ResponseHead, Field, IsField, IsResponseHead, ReadsResponse, print_response, status_code, crlf as line_end, is_value_byte, is_token_byte, is_ows, skip_ows, trim_ows}
 use Rattle.httparse.specs.Spans.{name_and_value}
 use Rattle.httparse.proofs.TrimLemmas.{trim_ows_space, AllPass-reverse}
+use Rattle.gateway_words.specs.Limits.{most_served_bytes}
 use Rattle.http_reply.specs.declared.head.Frame.TheVariants as frame
 use Rattle.http_reply.specs.declared.head.Reply.{Reply}
 use Rattle.http_reply.specs.declared.head.Reply.TheVariants as reply
 use Rattle.http_reply.specs.declared.framing.Framing.TheVariants as framing
 use Rattle.http_reply.specs.declared.framing.Framing.{Framing}
-use Rattle.http_reply.specs.Framing.{body_limit, decimal_from, is_number, framing_by, framing_in, framing_of}
+use Rattle.http_reply.specs.Framing.{decimal_from, is_number, framing_by, framing_in, framing_of}
 use Rattle.http_reply.specs.Reply.{head_limit, HasHead, body_by, reply_by, reply_with, IsReply, is_settled, HasBody}
 use Rattle.gateway_words.specs.Ascii.{crlf}
 use Rattle.http_reply.specs.Served.{served_head, ServedHasBody}
@@ -106,14 +107,14 @@ trimmed n small =
     let pass : AllPass is_ascii_digit (decimal n) = AllPass-from_list_all is_ascii_digit (decimal n) (digits-pass (decimal n) (decimal_is_IsNumeral n small).0.1) in
     trim_ows_space (decimal n) (no-blank-first (decimal n) pass) (no-blank-first (reverse (decimal n)) (AllPass-reverse is_ascii_digit (decimal n) pass))
 
-one-length : (v : List ℕ) (n : ℕ) → is_number v ≡ true → decimal_from 0 v ≡ n → nat_lt body_limit n ≡ false
+one-length : (v : List ℕ) (n : ℕ) → is_number v ≡ true → decimal_from 0 v ≡ n → nat_lt most_served_bytes n ≡ false
     → framing_of ((codes "Content-Length", v) ∷ []) ≡ framing.Framed (frame.Length n)
 one-length v n number value fits =
     ap (λ (b : Bool). cond (not (b && true)) framing.Bad (framing_by (decimal_from 0 v))) number
     ∙ ap framing_by value
     ∙ ap (λ (b : Bool). cond b framing.TooLong (framing.Framed (frame.Length n))) fits
 
-says : (n : ℕ) → n < 2 ^ 64 → nat_lt body_limit n ≡ false → framing_of (map name_and_value (served_field n ∷ [])) ≡ framing.Framed (frame.Length n)
+says : (n : ℕ) → n < 2 ^ 64 → nat_lt most_served_bytes n ≡ false → framing_of (map name_and_value (served_field n ∷ [])) ≡ framing.Framed (frame.Length n)
 says n small fits =
     let numeral = (decimal_is_IsNumeral n small).0 in
     let some : nat_lt 0 (length (decimal n)) ≡ true = let h : 0 < length (decimal n) = numeral.0 in grind (arith, nat_tests) in
@@ -130,7 +131,7 @@ pub served-has-body : ServedHasBody
 served-has-body body fits =
     let n = length body in
     let small : n < 2 ^ 64 = omega (arith, fits) in
-    let within : nat_lt body_limit n ≡ false = grind (arith, nat_tests) in
+    let within : nat_lt most_served_bytes n ≡ false = grind (arith, nat_tests) in
     let short = served-short n small in
     let whole : length (served_head n ++ body) ≡ length (served_head n) + n = length-append (served_head n) body in
     let behind : length (served_head n ++ body) - length (served_head n) ≡ n = omega (arith, whole) in

@@ -3,6 +3,7 @@ use Rattle.std.specs.Prelude.{ℕ, ◌+◌, ◌-◌, ◌*◌, List, [], ◌∷�
 use Rattle.std.specs.List.{list_all, list_any, filter}
 use Rattle.std.specs.Char.{is_ascii_digit}
 use Rattle.std.specs.Str.{bytes_eq, str_eq_ignore_ascii_case}
+use Rattle.gateway_words.specs.Limits.{most_served_bytes}
 use Rattle.http_reply.specs.declared.head.Frame.TheVariants as frame
 use Rattle.http_reply.specs.declared.framing.Framing.{Framing}
 use Rattle.http_reply.specs.declared.framing.Framing.TheVariants as framing
@@ -10,10 +11,6 @@ use Rattle.http_reply.specs.declared.framing.Framing.TheVariants as framing
 -- a field's name and its value without the white space around it
 abbrev pub Named : Type 0
 Named = List ℕ × List ℕ
-
--- the most bytes of a body
-abbrev pub body_limit : ℕ
-body_limit = 33554432
 
 -- the field has this name, in any case of its letters
 abbrev pub is_named : List ℕ → Named → Bool
@@ -43,7 +40,7 @@ is_number text = nat_lt 0 (length text) && list_all is_ascii_digit text
 
 -- a body of n bytes
 abbrev pub framing_by : ℕ → Framing
-framing_by n = if nat_lt body_limit n then framing.TooLong else framing.Framed (frame.Length n)
+framing_by n = if nat_lt most_served_bytes n then framing.TooLong else framing.Framed (frame.Length n)
 
 -- what the values of the lengths say: each is a number, all are one text, and it isn't above the limit
 abbrev pub framing_in : List (List ℕ) → Framing

@@ -2,13 +2,14 @@
 use Rattle.std.specs.Prelude.{◌≡◌, ◌≢◌, ◌⊎◌, ℕ, ◌+◌, ◌-◌, ◌≤◌, List, [], ◌∷◌, ◌++◌, map, length, take, drop, Bool, true, false, not, ◌&&◌, ◌||◌, ◌==◌, nat_lt, nat_le, IsTrue, if◌then◌else◌}
 use Rattle.httparse.specs.Grammar.{ResponseHead, ReadsResponse, print_response, status_code}
 use Rattle.httparse.specs.Spans.{name_and_value}
+use Rattle.gateway_words.specs.Limits.{most_served_bytes}
 use Rattle.http_reply.specs.declared.head.Frame.{Frame}
 use Rattle.http_reply.specs.declared.head.Frame.TheVariants as frame
 use Rattle.http_reply.specs.declared.head.Reply.{Reply}
 use Rattle.http_reply.specs.declared.head.Reply.TheVariants as reply
 use Rattle.http_reply.specs.declared.framing.Framing.{Framing}
 use Rattle.http_reply.specs.declared.framing.Framing.TheVariants as framing
-use Rattle.http_reply.specs.Framing.{Named, body_limit, framing_of}
+use Rattle.http_reply.specs.Framing.{Named, framing_of}
 
 -- how many of the first bytes are read as a head
 abbrev pub head_limit : ℕ
@@ -39,7 +40,7 @@ body_by framing.TooLong len behind ended = reply.TooLong
 body_by (framing.Framed (frame.Length n)) len behind ended =
     if ended && nat_lt behind n then reply.BadReply else reply.Body len (frame.Length n)
 body_by (framing.Framed frame.ToEnd) len behind ended =
-    if nat_lt body_limit behind then reply.TooLong else reply.Body len frame.ToEnd
+    if nat_lt most_served_bytes behind then reply.TooLong else reply.Body len frame.ToEnd
 
 -- what a reply is whose head is complete, by the head's fields, status and length
 abbrev pub reply_by : List Named → ℕ → ℕ → ℕ → Bool → Reply

@@ -1,7 +1,7 @@
 -- The reply with which a server of this project gives a file.
 use Rattle.std.specs.Prelude.{ℕ, ◌≤◌, List, [], ◌∷◌, ◌++◌, codes, decimal, length, true}
 use Rattle.gateway_words.specs.Ascii.{crlf}
-use Rattle.http_reply.specs.Framing.{body_limit}
+use Rattle.gateway_words.specs.Limits.{most_served_bytes}
 use Rattle.http_reply.specs.Reply.{HasBody}
 
 -- the head of a reply with a body of n bytes
@@ -10,4 +10,4 @@ served_head n = codes "HTTP/1.1 200 OK" ++ crlf ++ codes "Content-Length: " ++ d
 
 -- a file that is given so is the body of its reply
 abbrev pub ServedHasBody : Type 0
-ServedHasBody = (body : List ℕ) → length body ≤ body_limit → HasBody (served_head (length body) ++ body) true body
+ServedHasBody = (body : List ℕ) → length body ≤ most_served_bytes → HasBody (served_head (length body) ++ body) true body

@@ -94,3 +94,7 @@ pub record ScriptDialer : Type 0 where
   pub piece : ℕ
   pub script : List ScriptLine
   pub dialed : List Target
+
+-- a dialer that dialed nothing yet
+abbrev pub dialer_of : Replies → ℕ → List ScriptLine → ScriptDialer
+dialer_of world piece script = record { world = world; piece = piece; script = script; dialed = [] }

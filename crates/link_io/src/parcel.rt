@@ -9,7 +9,8 @@ use crate::target::Target;
 use std::alloc::{AllocError, Global};
 use std::marker::Model;
 
-/// A connection with what came over it. Contracts see it as `Packed`.
+/// A connection with the bytes sent and received on it: one exchange in progress. Contracts see it as
+/// `Packed`, with what is known of each (`IsParcel`).
 #[derive(Drop)]
 pub struct Parcel<L: Conn> {
     target: Target,
@@ -140,7 +141,8 @@ fn step_behind<L: Conn>(
 ) -> Result<Step, AllocError>
     requires some { 0 < room }
     ensures ok { IfOk result
-        (StepsBehind room (L.facts link.old) (L.facts link.new) received.old.items received.new.items) }
+        (StepsBehind room (L.facts link.old) (L.facts link.new)
+        received.old.items received.new.items) }
     ensures from { (o : Origin) → L.from link.old o → L.from link.new o }
     ensures err { OnErr result ((link.new ≡ link.old) × (received.new.items ≡ received.old.items)) }
 {

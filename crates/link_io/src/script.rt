@@ -2,7 +2,7 @@
 ghost use Rattle.std.specs.Prelude.{◌≡◌, ◌≤◌, ◌<◌, ◌+◌, ◌++◌, [], ◌∷◌, Some, None, ℕ, List, Option, map, length, IfOk, IfSome, OnErr};
 ghost use Rattle.link_io.specs.Origin.{Origin};
 ghost use Rattle.link_io.specs.Conn.{IsSameLink, Sends, Steps};
-ghost use Rattle.link_io.specs.Script.{ScriptLink, ScriptDialer, script_facts, IsFromWorld, IsCalled, trick_at, next_trick, next_count, sent_by, step_by, reply_for, not_found};
+ghost use Rattle.link_io.specs.Script.{ScriptLink, ScriptDialer, script_facts, IsFromWorld, IsCalled, trick_at, next_trick, next_count, sent_by, step_by, dialer_of, reply_for, not_found};
 
 use crate::address::HttpUrl;
 use crate::conn::{Conn, Dial, Sent, Step};
@@ -200,7 +200,8 @@ impl Model for ScriptDial {
 }
 
 impl ScriptDial {
-    /// A world with these replies. No step gives more than `piece` bytes.
+    /// A world with these replies, of which the first counts where two have one address. No step gives
+    /// more than `piece` bytes; a send takes all. Calls wait and fail by the script.
     pub fn new(
         alloc: Global,
         replies: Vec<(HttpUrl, Vec<u8>)>,
@@ -208,7 +209,7 @@ impl ScriptDial {
         script: Vec<ScriptLine>,
     ) -> ScriptDial
         requires { 1 ≤ piece }
-        ensures { result ≡ record { world = map (λ p. (p.0, p.1.items)) replies.items; piece = piece; script = script.items; dialed = [] } }
+        ensures { result ≡ dialer_of (map (λ p. (p.0, p.1.items)) replies.items) piece script.items }
     {
         ScriptDial {
             replies,
