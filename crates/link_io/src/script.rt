@@ -209,7 +209,8 @@ impl ScriptDial {
         script: Vec<ScriptLine>,
     ) -> ScriptDial
         requires { 1 ≤ piece }
-        ensures { result ≡ dialer_of (map (λ p. (p.0, p.1.items)) replies.items) piece script.items }
+        ensures { result
+            ≡ dialer_of (map (λ p. (p.0, p.1.items)) replies.items) piece script.items }
     {
         ScriptDial {
             replies,
