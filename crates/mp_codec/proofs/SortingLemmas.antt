@@ -98,6 +98,7 @@ module _ {X : Type 0} (lt : X → X → Bool) (o : IsStrictWeakOrder lt) where
       left : (p q : Bool) → not p && not q ≡ true → p ≡ false
       left true q e = absurd cc
       left false q e = refl
+
       right : (p q : Bool) → not p && not q ≡ true → q ≡ false
       right true q e = absurd cc
       right false true e = absurd cc
@@ -109,14 +110,18 @@ module _ {X : Type 0} (lt : X → X → Bool) (o : IsStrictWeakOrder lt) where
     where
       rest : List X
       rest = filter (ties lt z) ys
+
       with_y : Bool → List X → List X
       with_y b zs = cond b (y ∷ zs) zs
+
       with_x : Bool → List X → List X
       with_x b zs = cond b (x ∷ zs) zs
+
       swap : (a b : Bool) → (a ≡ true → b ≡ true → ⊥) → with_y b (with_x a rest) ≡ with_x a (with_y b rest)
       swap true true differ = absurd (differ refl refl)
       swap true false _ = refl
       swap false b _ = refl
+
       go : (c : Bool) → lt y x ≡ c → (a : Bool) → ties lt z x ≡ a → (b : Bool) → ties lt z y ≡ b
           → filter (ties lt z) (placed_by lt x ys) ≡ with_x (ties lt z x) rest
           → filter (ties lt z) (cond c (y ∷ placed_by lt x ys) (x ∷ y ∷ ys)) ≡ with_x (ties lt z x) (with_y (ties lt z y) rest)
