@@ -10,28 +10,28 @@ import time
 from pathlib import Path
 
 TOP = Path(__file__).resolve().parent.parent
-# Where the channels' makers and the peers lie, in the folder that stands beside this repository.
-PEERS = Path(os.environ.get("GATEWAY_BENCH", TOP.parent / "shared" / "bench"))
+# Where the channels' makers and the peers lie.
+PEERS = TOP / "bench" / "peers"
 ROUNDS = 5
 
 
-def skip(why):
-    """Ends with status 0: a bench is no test, and what it needs may be missing."""
-    print(f"skipped: {why}")
-    sys.exit(0)
+def stop(why):
+    """Says why a bench can't run, and ends with status 2."""
+    print(f"can't run: {why}", file=sys.stderr)
+    sys.exit(2)
 
 
 def needs_peers(*names):
     for name in names:
         if not (PEERS / name).is_file():
-            skip(f"there is no {name} in {PEERS}; GATEWAY_BENCH may name another folder")
+            stop(f"there is no {name} in {PEERS}")
 
 
 def needs_program(crate):
     """The built program of a crate."""
     program = TOP / "crates" / crate / "out" / crate
     if not program.is_file():
-        skip(f"there is no {program.relative_to(TOP)}: run `rt run` in crates/{crate} first")
+        stop(f"there is no {program.relative_to(TOP)}: run `rt run` in crates/{crate} first")
     return program
 
 
@@ -41,7 +41,7 @@ def python_with(*modules):
         if subprocess.run([python, "-c", f"import {', '.join(modules)}"], stderr=subprocess.DEVNULL).returncode == 0:
             return python
     packages = " ".join(f"python3-{module}" for module in modules)
-    skip(f"no Python here has {' and '.join(modules)}: `apt install {packages}`, and where another Python is the "
+    stop(f"no Python here has {' and '.join(modules)}: `apt install {packages}`, and where another Python is the "
          "default, its folder on PYTHONPATH")
 
 
