@@ -1,5 +1,5 @@
 use Rattle.std.proofs.Common.{◌≡◌, length}
-use Rattle.walk_shard.proofs.walk_often.Given as goal
+use Rattle.bench_tool.proofs.walk.walk_often.Given as goal
 
 abbrev pub invariant-loop : goal.invariant-loop
 invariant-loop l = l.walked ≡ length l.bytes

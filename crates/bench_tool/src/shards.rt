@@ -1,26 +1,21 @@
-//! A yardstick, and no part of the gateway: it reads and writes shards, so that the speed of
-//! `Shard::read` can be measured from outside (`bench/decode`), and what is read and written can be
-//! held against another program (`bench/shard_msgpack`).
+//! The input has pieces, one behind the other: 4 bytes of a length, high byte first, and so many bytes.
 //!
-//! Standard input has pieces, one behind the other: 4 bytes of a length, big-endian, and so many
-//! bytes. `read_shards TURNS < FILE` reads each piece as a shard TURNS times (once where no word is
-//! given), and prints how many shards and rows one turn read. `read_shards copy TURNS < FILE` takes and
-//! gives back the copies of the pieces that such turns read, and prints how many a turn took. The time
-//! of one beside the other is that of reading. `read_shards rows < FILE` prints each
-//! row of each shard, a line a field, texts in hexadecimal digits. `read_shards write < FILE` takes
-//! each piece as values, three a file (its name, whether it stands in packages.conda, its record),
-//! writes the shard of these files, and prints its bytes in hexadecimal digits, a line a shard.
-#![tactic(auto)]
+//! `bench_tool shards TURNS < FILE` reads each piece by `Shard::read` TURNS times, and prints how many
+//! shards and rows one turn reads. `bench_tool shards copy TURNS < FILE` takes and gives back the copies
+//! of the pieces that such turns read; the time of one beside the other is that of reading
+//! (`bench/decode`).
+//!
+//! `bench_tool shards rows < FILE` prints each row of each shard, a line a field, texts in hexadecimal
+//! digits. `bench_tool shards write < FILE` takes each piece as values, three a file (its name, whether
+//! it stands in packages.conda, its record), writes the shard of these files, and prints its bytes in
+//! hexadecimal digits, a line a shard (`bench/shard_msgpack`).
 
-mod writing;
-
+use crate::words::Words;
+use crate::writing;
 use anyhow::{Context, anyhow};
 use conda_record::RecordView;
 use shard_file::{Shard, ShardRow};
 use std::alloc::Global;
-use std::env;
-use std::io::Read;
-use std::rt::Env;
 
 // The first piece of some bytes, and what is behind it.
 fn first_piece(bytes: &[u8]) -> Option<(&[u8], &[u8])> {
@@ -84,10 +79,6 @@ fn print_copied(rt: &(impl Print + AllocGlobal), bytes: &[u8], turns: u32) -> an
     }
     println!(rt; "shards {} turns {turns}", tally.shards)?;
     Ok(())
-}
-
-fn turns_in(word: &str) -> anyhow::Result<u32> {
-    word.parse::<u32>().context("TURNS must be a number")
 }
 
 fn print_text(rt: &(impl Print + AllocGlobal), key: &str, text: &[u8]) -> anyhow::Result<()> {
@@ -187,18 +178,16 @@ fn print_written(rt: &(impl Print + AllocGlobal), bytes: &[u8]) -> anyhow::Resul
     Ok(())
 }
 
-fn main(rt: HostRuntime) -> anyhow::Result<()> {
-    let mut bytes = Vec::new(rt.alloc());
-    rt.reader().read_to_end(&mut bytes)?;
-    let mut words = env::args(&rt)?.skip(1);
-    match words.next() {
-        Some(word) if word.as_str() == "rows" => print_rows(&rt, bytes.as_slice()),
-        Some(word) if word.as_str() == "write" => print_written(&rt, bytes.as_slice()),
-        Some(word) if word.as_str() == "copy" => {
-            let word = words.next().context("TURNS must follow copy")?;
-            print_copied(&rt, bytes.as_slice(), turns_in(word.as_str())?)
-        }
-        Some(word) => print_tally(&rt, bytes.as_slice(), turns_in(word.as_str())?),
-        None => print_tally(&rt, bytes.as_slice(), 1),
+/// Reads, prints or writes shards.
+pub(crate) fn run(
+    rt: &(impl Print + AllocGlobal),
+    words: Words,
+    input: &[u8],
+) -> anyhow::Result<()> {
+    match words.first() {
+        Some("rows") => print_rows(rt, input),
+        Some("write") => print_written(rt, input),
+        Some("copy") => print_copied(rt, input, words.turns_behind()?),
+        Some(_) | None => print_tally(rt, input, words.turns()?),
     }
 }

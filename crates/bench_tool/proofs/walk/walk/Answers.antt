@@ -1,6 +1,6 @@
 use Rattle.std.proofs.Common.{◌≡◌, length, arith}
-use Rattle.walk_shard.proofs.WalkLemmas.{behind_one, fewer_left, at_end}
-use Rattle.walk_shard.proofs.walk.Goals as goal
+use Rattle.bench_tool.proofs.WalkLemmas.{behind_one, fewer_left, at_end}
+use Rattle.bench_tool.proofs.walk.walk.Goals as goal
 
 pub loop-cursor-smaller : goal.loop-cursor-smaller
 loop-cursor-smaller c = fewer_left c.in_ok-skip.ensures.found.0 c.loop-cursor.cursor c.skip.new.self c.in_ok-skip.ensures.found.1

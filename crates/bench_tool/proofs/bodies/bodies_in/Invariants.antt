@@ -1,5 +1,5 @@
 use Rattle.std.proofs.Common.{length}
-use Rattle.check_bodies.proofs.bodies_in.Given as goal
+use Rattle.bench_tool.proofs.bodies.bodies_in.Given as goal
 
 abbrev pub decreases-loop-rest : goal.decreases-loop-rest
 decreases-loop-rest l = length l.rest

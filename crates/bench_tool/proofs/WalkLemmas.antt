@@ -6,7 +6,7 @@ use Rattle.mp_codec.specs.Value.{Value, none, more}
 use Rattle.mp_codec.specs.Spelling.{Lies, Breaks, in_later}
 use Rattle.mp_codec.proofs.PlaceLemmas.{same_end}
 use Rattle.mp_codec.proofs.LeafLemmas.{value_longer}
-use Rattle.walk_shard.specs.Walk.{AreValues, BreakOff}
+use Rattle.bench_tool.specs.Walk.{AreValues, BreakOff}
 
 -- whole values stand in front of this position
 pub record IsBehindValues (bytes : List ℕ) (here : Position) : Type 0 where

@@ -1,21 +1,15 @@
-//! A yardstick, and no part of the gateway: it looks names up in an index over and over, so that the
-//! speed of `Index::lookup` can be measured from outside (`bench/lookup`), and prints what an index
-//! says, so that it can be held against another program's reading (`bench/index_msgpack`).
+//! `bench_tool names TURNS < FILE` reads the length of an index as 4 bytes, high byte first, the index,
+//! and a name on each line behind it. It looks each name up by `Index::lookup` TURNS times, and prints
+//! how many names there are and how many were found in all (`bench/lookup`).
 //!
-//! `look_up_names TURNS < FILE` reads standard input whole: the length of an index as 4 bytes, high
-//! byte first, the index, and a name on each line behind it. It looks each name up TURNS times (once
-//! where no word is given), and prints how many names there are and how many were found in all.
-//!
-//! `look_up_names map < FILE` prints the index's bases, its subdir, its number of names, and for
-//! each name its digest, or `-` where it isn't listed.
-#![tactic(auto)]
+//! `bench_tool names map < FILE` prints the index's bases, its subdir, its number of names, and for
+//! each name its digest, or `-` where it isn't listed (`bench/index_msgpack`).
 
+use crate::words::Words;
 use anyhow::{Context, anyhow};
 use shard_index::Index;
 use std::alloc::Global;
-use std::io::Read;
-use std::rt::Env;
-use std::{env, str};
+use std::str;
 
 // The index, and the lines behind it.
 fn index_and_lines(alloc: Global, input: &[u8]) -> anyhow::Result<(Index, &str)> {
@@ -73,19 +67,15 @@ fn print_map(rt: &(impl Print + AllocGlobal), index: &Index, lines: &str) -> any
     Ok(())
 }
 
-fn main(rt: HostRuntime) -> anyhow::Result<()> {
-    let mut input = Vec::new(rt.alloc());
-    rt.reader().read_to_end(&mut input)?;
-    let (index, lines) = index_and_lines(rt.alloc(), &input)?;
-    match env::args(&rt)?.nth(1) {
-        Some(word) if word.as_str() == "map" => print_map(&rt, &index, lines),
-        Some(word) => {
-            let turns = word
-                .as_str()
-                .parse::<u32>()
-                .context("TURNS must be a number")?;
-            print_counts(&rt, &index, lines, turns)
-        }
-        None => print_counts(&rt, &index, lines, 1),
+/// Looks names up, or prints what the index says.
+pub(crate) fn run(
+    rt: &(impl Print + AllocGlobal),
+    words: Words,
+    input: &[u8],
+) -> anyhow::Result<()> {
+    let (index, lines) = index_and_lines(rt.alloc(), input)?;
+    match words.first() {
+        Some("map") => print_map(rt, &index, lines),
+        Some(_) | None => print_counts(rt, &index, lines, words.turns()?),
     }
 }

@@ -1,19 +1,13 @@
-//! A yardstick, and no part of the gateway: it checks bytes against their digests over and over, so
-//! that the speed of `Body::check` can be measured from outside (`bench/digest`).
-//!
-//! `check_bodies TURNS < FILE` reads standard input whole: entries of a digest of 32 bytes, a length
-//! of 4 bytes, high byte first, and so many bytes. It checks each of them TURNS times (once where no
-//! number is given), and prints how many bodies and bytes one turn checks.
-#![tactic(auto)]
+//! `bench_tool bodies TURNS < FILE` reads entries: a digest of 32 bytes, a length of 4 bytes, high byte
+//! first, and so many bytes. It checks each by `Body::check` TURNS times, and prints how many bodies
+//! and bytes one turn checks (`bench/digest`).
 
 ghost use Rattle.std.specs.Prelude.{◌<◌, length, IfOk};
 
+use crate::words::Words;
 use anyhow::{Context, anyhow};
 use digest_gate::{Body, Digest};
 use std::alloc::Global;
-use std::env;
-use std::io::Read;
-use std::rt::Env;
 
 // The first entry's body, checked, and the bytes behind the entry.
 fn first_body(alloc: Global, input: &[u8]) -> anyhow::Result<(Body, &[u8])>
@@ -59,22 +53,14 @@ fn checked_again(alloc: Global, bodies: Vec<Body>) -> anyhow::Result<Vec<Body>> 
     Ok(checked)
 }
 
-// The number of turns that the program was called with.
-fn turns_given(rt: &(impl Env + Alloc)) -> anyhow::Result<u32> {
-    match env::args(rt)?.nth(1) {
-        Some(word) => word
-            .as_str()
-            .parse::<u32>()
-            .context("TURNS must be a number"),
-        None => Ok(1),
-    }
-}
-
-fn main(rt: HostRuntime) -> anyhow::Result<()> {
-    let turns = turns_given(&rt)?.max(1);
-    let mut input = Vec::new(rt.alloc());
-    rt.reader().read_to_end(&mut input)?;
-    let mut bodies = bodies_in(rt.alloc(), &input)?;
+/// Checks the entries of the input, and prints how many.
+pub(crate) fn run(
+    rt: &(impl Print + AllocGlobal),
+    words: Words,
+    input: &[u8],
+) -> anyhow::Result<()> {
+    let turns = words.turns()?.max(1);
+    let mut bodies = bodies_in(rt.alloc(), input)?;
     for _ in 1..turns {
         bodies = checked_again(rt.alloc(), bodies)?;
     }

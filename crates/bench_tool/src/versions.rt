@@ -1,23 +1,19 @@
-//! A yardstick, and no part of the gateway: it compares versions over and over, so that the speed
-//! of `Version::compare` can be measured from outside (`bench/versions`), and line by line, so that
-//! its order can be held against another program's (`bench/versions_order`).
+//! `bench_tool versions TURNS < FILE` reads a version from each line, compares each of them with each
+//! by `Version::compare` TURNS times, and prints how many pairs were in ascending order and how many
+//! were equal, over all turns (`bench/versions`).
 //!
-//! `compare_versions TURNS < FILE` reads a version from each line of standard input, compares each
-//! of them with each TURNS times (once where no word is given), and prints how many pairs were in
-//! ascending order and how many were equal, over all turns.
-//!
-//! `compare_versions pairs < FILE` reads two texts with a blank between them from each line, and
-//! prints a line for each: `<`, `=`, `>`, or `?` where one of them is no version.
-#![tactic(auto)]
+//! `bench_tool versions pairs < FILE` reads two texts with a blank between them from each line, and
+//! prints a line for each: `<`, `=`, `>`, or `?` where one of them is no version
+//! (`bench/versions_order`).
 
 ghost use Rattle.std.specs.Prelude.{◌≡◌};
-ghost use Rattle.compare_versions.specs.Sign.{sign_of, sign_of_texts};
+ghost use Rattle.bench_tool.specs.Sign.{sign_of, sign_of_texts};
 
+use crate::words::Words;
 use anyhow::{Context, anyhow};
 use conda_version::Version;
 use std::cmp::Ordering;
-use std::rt::Env;
-use std::{env, io};
+use std::str;
 
 // The sign of an order.
 fn sign(order: Ordering) -> char
@@ -98,17 +94,15 @@ fn print_tally(rt: &(impl Print + AllocGlobal), texts: &str, turns: u32) -> anyh
     Ok(())
 }
 
-fn main(rt: HostRuntime) -> anyhow::Result<()> {
-    let text = io::read_to_string(rt.alloc(), rt.reader())?;
-    match env::args(&rt)?.nth(1) {
-        Some(word) if word.as_str() == "pairs" => print_signs(&rt, text.as_str()),
-        Some(word) => {
-            let turns = word
-                .as_str()
-                .parse::<u32>()
-                .context("TURNS must be a number")?;
-            print_tally(&rt, text.as_str(), turns)
-        }
-        None => print_tally(&rt, text.as_str(), 1),
+/// Compares the versions of the input, or prints a sign for each pair.
+pub(crate) fn run(
+    rt: &(impl Print + AllocGlobal),
+    words: Words,
+    input: &[u8],
+) -> anyhow::Result<()> {
+    let text = str::from_utf8(input).ok().context("the input is no text")?;
+    match words.first() {
+        Some("pairs") => print_signs(rt, text),
+        Some(_) | None => print_tally(rt, text, words.turns()?),
     }
 }

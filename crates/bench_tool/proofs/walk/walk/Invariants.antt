@@ -1,6 +1,6 @@
 use Rattle.std.proofs.Common.{length}
-use Rattle.walk_shard.proofs.WalkLemmas.{IsBehindValues}
-use Rattle.walk_shard.proofs.walk.Given as goal
+use Rattle.bench_tool.proofs.WalkLemmas.{IsBehindValues}
+use Rattle.bench_tool.proofs.walk.walk.Given as goal
 
 abbrev pub invariant-loop-cursor : goal.invariant-loop-cursor
 invariant-loop-cursor l = IsBehindValues l.bytes l.cursor
