@@ -1,0 +1,10 @@
+pub mod Advance
+pub mod Cause
+pub mod Made
+pub mod Pins
+pub mod Pin
+pub mod Verdict
+pub use Rattle.http_reply.specs.Request
+pub use Rattle.http_reply.specs.Reply
+pub use Rattle.link_io.specs.Parcel
+pub use Rattle.channel_url.specs.Addresses
