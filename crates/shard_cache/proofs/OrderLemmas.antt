@@ -1,6 +1,6 @@
 -- Listed rows, rows that are taken out, and where a row stands in the order.
-use Rattle.std.proofs.Common.{◌≡◌, ◌≢◌, ℕ, ◌==◌, if◌then◌else◌, Bool, true, false, true≢false, List, [], ◌∷◌, ◌++◌, refl, sym, ap, ◌∙◌, arith, eq-eqb, ne_eqb}
-use Rattle.shard_cache.specs.Recency.{is_listed, without, only, AreListedOnce}
+use Rattle.std.proofs.Common.{◌≡◌, ◌≢◌, ℕ, ◌+◌, ◌==◌, if◌then◌else◌, Bool, true, false, true≢false, List, [], ◌∷◌, ◌++◌, Some, refl, sym, ap, ◌∙◌, arith, eq-eqb, ne_eqb}
+use Rattle.shard_cache.specs.Recency.{is_listed, without, only, oldest_of, AreListedOnce, AreBelow}
 
 -- a row that is listed and one that isn't are two
 pub apart_rows : (q r : ℕ) (ps : List (ℕ × ℕ)) → is_listed q ps ≡ true → is_listed r ps ≡ false → r ≢ q
@@ -120,3 +120,30 @@ splits row (p ∷ ps) once listed = split (p.0 == row) refl listed (splits row p
         in_front : (q : ℕ) (s : Splits row ps) (b : Bool) → (p.0 == q) ≡ b → is_listed p.0 s.behind ≡ false → (if b then true else is_listed q s.before) ≡ true → is_listed q s.behind ≡ false
         in_front q s true e first h = let same : p.0 ≡ q = grind (arith, e) in ap (λ r. is_listed r s.behind) (sym same) ∙ first
         in_front q s false e first h = s.apart q h
+
+-- ---- what callers ask of the list
+-- the least recently used row is listed
+pub oldest_listed : (row : ℕ) (order : List (ℕ × ℕ)) → oldest_of order ≡ Some row → is_listed row order ≡ true
+oldest_listed row [] e = cc
+oldest_listed row (p ∷ []) e = let same : p.0 ≡ row = cc in ap (λ r. is_listed r (p ∷ [])) (sym same) ∙ first_listed p []
+oldest_listed row (p ∷ (q ∷ qs)) e = listed_behind row p (q ∷ qs) (oldest_listed row (q ∷ qs) e)
+
+-- another row is listed as before
+pub still_listed : (row other : ℕ) (order : List (ℕ × ℕ)) → other ≢ row → is_listed other (without row order) ≡ is_listed other order
+still_listed row other [] ne = refl
+still_listed row other (p ∷ ps) ne = split (p.0 == row) refl (still_listed row other ps ne)
+  where
+    split : (b : Bool) → (p.0 == row) ≡ b → is_listed other (without row ps) ≡ is_listed other ps → is_listed other (if b then without row ps else p ∷ without row ps) ≡ (if p.0 == other then true else is_listed other ps)
+    split true e h = let apart : (p.0 == other) ≡ false = grind (arith, e, ne) in rw apart h
+    split false e h = ap (λ b. if p.0 == other then true else b) h
+
+-- a row that is above all listed ones isn't listed
+pub unlisted_above : (row : ℕ) (order : List (ℕ × ℕ)) → AreBelow row order → is_listed row order ≡ false
+unlisted_above row [] below = refl
+unlisted_above row (p ∷ ps) below =
+    let apart : (p.0 == row) ≡ false = ne_eqb p.0 row (λ same. omega (arith, below.0, same)) in
+    ap (λ b. if b then true else is_listed row ps) apart ∙ unlisted_above row ps below.1
+
+pub below_more : (row : ℕ) (order : List (ℕ × ℕ)) → AreBelow row order → AreBelow (row + 1) order
+below_more row [] below = tt
+below_more row (p ∷ ps) below = (omega (arith, below.0), below_more row ps below.1)

@@ -1,6 +1,6 @@
 //! `Recency`, the rows in order of use, and its calls.
 
-ghost use Rattle.std.specs.Prelude.{◌≡◌, ◌+◌, ◌<◌, ◌≤◌, ◌∷◌, ◌++◌, [], true, false, length, OnOk, OnErr};
+ghost use Rattle.std.specs.Prelude.{◌≡◌, ◌+◌, ◌<◌, ◌≤◌, ◌∷◌, ◌++◌, [], true, false, length, IfSome, OnOk, OnErr};
 ghost use Rattle.shard_cache.specs.Recency.{listing, is_listed, without, only, total_of, oldest_of, AreListedOnce, AreBelow};
 
 use crate::links::Links;
@@ -91,7 +91,8 @@ impl Recency {
 
     /// The least recently used row, or None where none is listed.
     pub fn oldest(&self) -> Option<u64>
-        ensures { result ≡ oldest_of self.now.order }
+        ensures oldest { result ≡ oldest_of self.now.order }
+        ensures listed { IfSome result (λ row. is_listed row self.now.order ≡ true) }
     {
         self.links.oldest
     }
