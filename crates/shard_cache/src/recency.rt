@@ -75,8 +75,8 @@ impl Recency {
           order = only row self.old.order ++ without row self.old.order;
         } }
     {
-        let size = self.links.unlink(row);
-        self.links.put_first(row, size);
+        let same_size = self.links.unlink(row);
+        self.links.put_first(row, same_size);
     }
 
     /// Takes a row out of the list.
