@@ -1,0 +1,3 @@
+pub mod OrderLemmas
+mod LinkLemmas
+mod CountLemmas
