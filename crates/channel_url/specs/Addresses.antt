@@ -1,5 +1,5 @@
 -- The addresses of a channel (docs/FORMATS.md, "Addresses"), over the URL Standard as `url` reads it.
-use Rattle.std.specs.Prelude.{ℕ, ◌-◌, List, [], ◌∷◌, ◌++◌, length, slice_index, Bool, not, ◌||◌, ◌==◌, nat_lt, codes, Option, None, Some, is_some, Result, Ok, Err, if◌then◌else◌}
+use Rattle.std.specs.Prelude.{ℕ, ◌-◌, List, [], ◌∷◌, ◌++◌, length, slice_index, Bool, not, ◌||◌, ◌==◌, nat_lt, codes, None, Some, is_some, Result, Ok, Err, if◌then◌else◌}
 use Rattle.std.specs.Str.{bytes_eq}
 use Rattle.url.specs.Parser.{Parsed, parse_url, and_then}
 use Rattle.url.specs.Parts.{Parts, serialize, has_credentials}

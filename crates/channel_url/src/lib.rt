@@ -7,11 +7,16 @@
 
 mod base;
 mod index;
+mod laws;
 mod package;
 mod parsing;
 mod shard;
 
 pub use base::{MOST_OF_CHANNEL_BASE, MOST_OF_SHARDS_BASE, channel_base, shards_base};
 pub use index::index_url;
+pub use laws::{
+    a_channel_base_is_short_and_slashed, a_shards_base_is_short_and_slashed,
+    index_addresses_are_apart,
+};
 pub use package::package_url;
 pub use shard::shard_url;

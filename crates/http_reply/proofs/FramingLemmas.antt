@@ -1,11 +1,11 @@
 -- The fields of a head, one behind the other.
-use Rattle.std.proofs.Common.{◌≡◌, ◌⊎◌, inl, inr, ℕ, Bool, true, false, cond, not, ◌&&◌, ◌||◌, List, [], ◌∷◌, Option, Some, None, refl, sym, ◌∙◌, ap, subst}
+use Rattle.std.proofs.Common.{◌≡◌, ℕ, Bool, true, false, cond, not, ◌&&◌, ◌||◌, List, [], ◌∷◌, Option, Some, None, refl, sym, ◌∙◌, ap}
 use Rattle.std.specs.List.{list_all, list_any}
 use Rattle.std.specs.Str.{bytes_eq}
 use Rattle.std.proofs.lemmas.Slice.Eq.{bytes_eq-Decides}
 use Rattle.http_reply.specs.declared.framing.Framing.{Framing}
 use Rattle.http_reply.specs.declared.framing.Framing.TheVariants as framing
-use Rattle.http_reply.specs.Framing.{Named, is_named, content_length, transfer_encoding, lengths_in, decimal_from, is_number, framing_by, framing_in, framing_of, agrees, framing_found, found_behind, found_in, framed, framing_from}
+use Rattle.http_reply.specs.Framing.{Named, is_named, content_length, transfer_encoding, lengths_in, decimal_from, is_number, framing_by, framing_in, framing_of, found_in, framed, framing_from}
 
 -- the tests of the lengths, in one row
 judged : (numbers same : Bool) (by : Framing) → Framing

@@ -1,12 +1,12 @@
 -- What the parser of heads answers, as a reply.
-use Rattle.std.proofs.Common.{◌≡◌, ◌⊎◌, inl, inr, ℕ, ◌+◌, ◌-◌, ◌≤◌, ◌<◌, Bool, List, [], ◌++◌, length, take, drop, map, sym, ◌∙◌, ap, subst, arith, refl}
+use Rattle.std.proofs.Common.{◌≡◌, inl, inr, ℕ, ◌+◌, ◌-◌, ◌≤◌, ◌<◌, Bool, List, [], ◌++◌, length, take, drop, map, sym, ◌∙◌, ap, subst, arith}
 use Rattle.std.proofs.lemmas.List.{length-map, append-nil, length-append, take-append-drop}
-use Rattle.httparse.specs.Grammar.{ResponseHead, Field, ReadsResponse, HasNoResponse, print_response, status_code}
-use Rattle.httparse.specs.Spans.{name_and_value, header_bytes, IsResponseOf, IsResponseAt, ResponseOverflows}
+use Rattle.httparse.specs.Grammar.{ReadsResponse, HasNoResponse, status_code}
+use Rattle.httparse.specs.Spans.{name_and_value, header_bytes, IsResponseOf, ResponseOverflows}
 use Rattle.httparse.specs.declared.spans.HeaderSpan.{HeaderSpan}
 use Rattle.httparse.specs.declared.spans.ResponseSpans.{ResponseSpans}
 use Rattle.http_reply.specs.declared.head.Reply.{Reply}
-use Rattle.http_reply.specs.Reply.{head_limit, field_limit, HasHead, HasNoHead, HasNoFewHead, reply_by, reply_without, IsReply}
+use Rattle.http_reply.specs.Reply.{head_limit, field_limit, HasNoFewHead, reply_by, reply_without, IsReply}
 
 shorter : (n : ℕ) (l : List HeaderSpan) → length (take n l) ≤ length l
 shorter n l =

@@ -4,3 +4,4 @@ mod FramingLemmas
 mod HeadLemmas
 pub mod ReplyLemmas
 mod ServedLemmas
+mod UnsettledLemmas

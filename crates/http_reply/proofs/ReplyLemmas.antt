@@ -1,8 +1,8 @@
 -- Bytes are one reply, and what a front of a whole reply is.
-use Rattle.std.proofs.Common.{◌≡◌, ◌⊎◌, inl, inr, ℕ, ◌+◌, ◌-◌, ◌≤◌, ◌<◌, Bool, true, false, cond, not, ◌&&◌, ◌||◌, ◌==◌, List, [], ◌∷◌, ◌++◌, length, take, drop, map, refl, sym, ◌∙◌, ap, subst, arith, append_assoc, length-append, nat_lt, nat_le}
+use Rattle.std.proofs.Common.{◌≡◌, inl, inr, ℕ, ◌+◌, ◌-◌, ◌≤◌, ◌<◌, Bool, true, false, cond, ◌||◌, ◌==◌, List, ◌++◌, length, take, drop, map, refl, sym, ◌∙◌, ap, subst, arith, length-append, nat_lt}
 use Rattle.std.proofs.lemmas.List.{take_all, take-append-le, drop-append-le, length-drop, length-take-le, take-append-drop, append-nil}
-use Rattle.std.proofs.Math.Seq.{take-append-add, drop-append_seam}
-use Rattle.std.proofs.lemmas.Bool.{ltb-true, cases_Bool, cases_lt}
+use Rattle.std.proofs.Math.Seq.{take-append-add}
+use Rattle.std.proofs.lemmas.Bool.{ltb-true, cases_lt}
 use Rattle.std.proofs.lemmas.Bool.Decides.{nat_tests}
 use Rattle.httparse.specs.Grammar.{ResponseHead, ReadsResponse, print_response, status_code}
 use Rattle.httparse.specs.Spans.{name_and_value}
@@ -15,7 +15,7 @@ use Rattle.http_reply.specs.declared.head.Reply.TheVariants as reply
 use Rattle.http_reply.specs.declared.framing.Framing.{Framing}
 use Rattle.http_reply.specs.declared.framing.Framing.TheVariants as framing
 use Rattle.http_reply.specs.Framing.{Named, framing_of}
-use Rattle.http_reply.specs.Reply.{head_limit, HasHead, HasNoHead, body_by, reply_by, reply_with, reply_without, IsReplyWith, IsReplyWithout, IsReply, is_settled, IsDecidedAs, framed_bytes, HasBody}
+use Rattle.http_reply.specs.Reply.{head_limit, HasHead, body_by, reply_by, reply_with, reply_without, IsReply, is_settled, framed_bytes, HasBody}
 use Rattle.http_reply.specs.Law.{OneReply, FrontsAreGood, FrontsHaveBody}
 
 -- ---- one head, one reply
@@ -76,7 +76,7 @@ front-long n l k a b = elim (cases_lt n (length l)) [
 ]
 
 -- how many bytes a head has at most
-head-fits : (received : List ℕ) (h : ResponseHead) → HasHead received h → (length (print_response h) ≤ head_limit) × (length (print_response h) ≤ length received)
+pub head-fits : (received : List ℕ) (h : ResponseHead) → HasHead received h → (length (print_response h) ≤ head_limit) × (length (print_response h) ≤ length received)
 head-fits received h x =
     let size : length (take head_limit received) ≡ length (print_response h) + length x.rest = ap length x.reads.1 ∙ length-append (print_response h) x.rest in
     let short = front-short head_limit received in

@@ -1,16 +1,16 @@
 -- The reply with which a server of this project gives a file has the file as its body.
-use Rattle.std.proofs.Common.{◌≡◌, inl, inr, ℕ, ◌+◌, ◌-◌, ◌*◌, ◌^◌, ◌≤◌, ◌<◌, Bool, true, false, cond, not, ◌&&◌, ◌==◌, List, [], ◌∷◌, ◌++◌, length, take, drop, map, reverse, refl, sym, ◌∙◌, ap, subst, arith, append_assoc, length-append, nat_lt, nat_le, Some, codes}
+use Rattle.std.proofs.Common.{◌≡◌, inl, ℕ, ◌+◌, ◌-◌, ◌*◌, ◌^◌, ◌≤◌, ◌<◌, Bool, true, false, cond, not, ◌&&◌, List, [], ◌∷◌, ◌++◌, length, take, map, reverse, refl, sym, ◌∙◌, ap, arith, append_assoc, length-append, nat_lt, Some, codes}
 use Rattle.std.specs.Prelude.{decimal}
 use Rattle.std.specs.List.{list_all, AllPass}
 use Rattle.std.specs.Char.{is_ascii_digit, digit_value}
-use Rattle.std.specs.Str.Parse.{AllDigits, IsNumeral, digits_value, digits_value_after}
+use Rattle.std.specs.Str.Parse.{AllDigits, digits_value_after}
 use Rattle.std.proofs.lemmas.Fmt.{decimal_is_IsNumeral, length-decimal-le}
 use Rattle.std.proofs.lemmas.Bool.Decides.{nat_tests}
 use Rattle.std.proofs.lemmas.List.{take_all, append-nil}
 use Rattle.std.proofs.Math.Seq.{drop-append_seam}
 use Rattle.std.proofs.lemmas.List.Sums.{AllPass-from_list_all}
 use Rattle.std.proofs.lemmas.List.Elements.{All-cons, All-nil, All-head}
-use Rattle.httparse.specs.Grammar.{ResponseHead, Field, IsField, IsResponseHead, ReadsResponse, print_response, status_code, crlf as line_end, is_value_byte, is_token_byte, is_ows, skip_ows, trim_ows}
+use Rattle.httparse.specs.Grammar.{ResponseHead, Field, IsField, IsResponseHead, print_response, crlf as line_end, is_value_byte, is_token_byte, is_ows, skip_ows, trim_ows}
 use Rattle.httparse.specs.Spans.{name_and_value}
 use Rattle.httparse.proofs.TrimLemmas.{trim_ows_space, AllPass-reverse}
 use Rattle.gateway_words.specs.Limits.{most_served_bytes}
@@ -19,8 +19,8 @@ use Rattle.http_reply.specs.declared.head.Reply.{Reply}
 use Rattle.http_reply.specs.declared.head.Reply.TheVariants as reply
 use Rattle.http_reply.specs.declared.framing.Framing.TheVariants as framing
 use Rattle.http_reply.specs.declared.framing.Framing.{Framing}
-use Rattle.http_reply.specs.Framing.{decimal_from, is_number, framing_by, framing_in, framing_of}
-use Rattle.http_reply.specs.Reply.{head_limit, HasHead, body_by, reply_by, reply_with, IsReply, is_settled, HasBody}
+use Rattle.http_reply.specs.Framing.{decimal_from, is_number, framing_by, framing_of}
+use Rattle.http_reply.specs.Reply.{head_limit, body_by, reply_by, reply_with}
 use Rattle.gateway_words.specs.Ascii.{crlf}
 use Rattle.http_reply.specs.Served.{served_head, ServedHasBody}
 use Rattle.http_reply.proofs.ReplyLemmas.{take-front}

@@ -1,6 +1,6 @@
 -- How long a reply's body is, by the fields of its head (RFC 9112, 6.3, in this project's profile).
-use Rattle.std.specs.Prelude.{ℕ, ◌+◌, ◌-◌, ◌*◌, List, [], ◌∷◌, map, length, codes, Bool, true, false, not, ◌&&◌, nat_lt, Option, Some, None, if◌then◌else◌}
-use Rattle.std.specs.List.{list_all, list_any, filter}
+use Rattle.std.specs.Prelude.{ℕ, ◌+◌, ◌-◌, ◌*◌, List, [], ◌∷◌, length, codes, Bool, true, not, ◌&&◌, nat_lt, Option, Some, None, if◌then◌else◌}
+use Rattle.std.specs.List.{list_all, list_any}
 use Rattle.std.specs.Char.{is_ascii_digit}
 use Rattle.std.specs.Str.{bytes_eq, str_eq_ignore_ascii_case}
 use Rattle.gateway_words.specs.Limits.{most_served_bytes}

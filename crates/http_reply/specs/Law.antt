@@ -1,10 +1,10 @@
 -- Laws of replies.
-use Rattle.std.specs.Prelude.{◌≡◌, ◌⊎◌, ℕ, List, ◌++◌, length, Bool, true, false}
-use Rattle.httparse.specs.Grammar.{ResponseHead}
+use Rattle.std.specs.Prelude.{◌≡◌, ◌⊎◌, ℕ, ◌+◌, ◌≤◌, List, [], ◌++◌, length, Bool, true, false}
+use Rattle.gateway_words.specs.Limits.{most_served_bytes}
 use Rattle.http_reply.specs.declared.head.Frame.{Frame}
 use Rattle.http_reply.specs.declared.head.Reply.{Reply}
 use Rattle.http_reply.specs.declared.head.Reply.TheVariants as reply
-use Rattle.http_reply.specs.Reply.{IsReply, HasBody, IsDecidedAs, is_settled}
+use Rattle.http_reply.specs.Reply.{head_limit, IsReply, HasBody, IsDecidedAs, IsUnsettled, is_settled}
 
 -- bytes are one reply
 abbrev pub OneReply : Type 0
@@ -23,3 +23,12 @@ FrontsHaveBody = (front rest body : List ℕ) (r : Reply)
 -- bytes that have ended are decided
 abbrev pub EndedIsDecided : Type 0
 EndedIsDecided = (received : List ℕ) (r : Reply) → IsReply received true r → is_settled (length received) true r ≡ true
+
+-- nothing is decided before the first byte
+abbrev pub NothingIsUnsettled : Type 0
+NothingIsUnsettled = IsUnsettled [] false
+
+-- bytes that aren't decided are no more than the longest head and the longest body together
+abbrev pub UnsettledIsShort : Type 0
+UnsettledIsShort = (received : List ℕ) (ended : Bool) (r : Reply)
+    → IsReply received ended r → is_settled (length received) ended r ≡ false → length received ≤ head_limit + most_served_bytes

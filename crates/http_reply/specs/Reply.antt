@@ -1,5 +1,5 @@
 -- What some received bytes are as a reply, and whether that is decided.
-use Rattle.std.specs.Prelude.{◌≡◌, ◌≢◌, ◌⊎◌, ℕ, ◌+◌, ◌-◌, ◌≤◌, List, [], ◌∷◌, ◌++◌, map, length, take, drop, Bool, true, false, not, ◌&&◌, ◌||◌, ◌==◌, nat_lt, nat_le, IsTrue, if◌then◌else◌}
+use Rattle.std.specs.Prelude.{◌≡◌, ◌⊎◌, ℕ, ◌+◌, ◌-◌, ◌≤◌, List, map, length, take, drop, Bool, true, false, ◌&&◌, ◌||◌, ◌==◌, nat_lt, nat_le, if◌then◌else◌}
 use Rattle.httparse.specs.Grammar.{ResponseHead, ReadsResponse, print_response, status_code}
 use Rattle.httparse.specs.Spans.{name_and_value}
 use Rattle.gateway_words.specs.Limits.{most_served_bytes}

@@ -1,5 +1,5 @@
 -- The reply with which a server of this project gives a file.
-use Rattle.std.specs.Prelude.{ℕ, ◌≤◌, List, [], ◌∷◌, ◌++◌, codes, decimal, length, true}
+use Rattle.std.specs.Prelude.{ℕ, ◌≤◌, List, ◌++◌, codes, decimal, length, true}
 use Rattle.gateway_words.specs.Ascii.{crlf}
 use Rattle.gateway_words.specs.Limits.{most_served_bytes}
 use Rattle.http_reply.specs.Reply.{HasBody}

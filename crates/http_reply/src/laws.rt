@@ -1,6 +1,6 @@
 //! Laws over the definitions, each the contract of a function with no body.
 
-ghost use Rattle.http_reply.specs.Law.{OneReply, FrontsAreGood, FrontsHaveBody, EndedIsDecided};
+ghost use Rattle.http_reply.specs.Law.{OneReply, FrontsAreGood, FrontsHaveBody, EndedIsDecided, NothingIsUnsettled, UnsettledIsShort};
 ghost use Rattle.http_reply.specs.Served.{ServedHasBody};
 
 /// Bytes are one reply.
@@ -26,4 +26,14 @@ pub fn ended_replies_are_decided()
 /// A file that is given with its length is the body of its reply.
 pub fn a_served_file_is_the_body()
     ensures { ServedHasBody }
+{}
+
+/// Nothing is decided before the first byte.
+pub fn nothing_is_decided_before_the_first_byte()
+    ensures { NothingIsUnsettled }
+{}
+
+/// Bytes that aren't decided are at most 33,619,968: the longest head and the longest body.
+pub fn undecided_bytes_are_few()
+    ensures { UnsettledIsShort }
 {}

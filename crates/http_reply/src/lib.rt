@@ -14,5 +14,6 @@ pub use head::{BODY_LIMIT, FIELD_LIMIT, Frame, HEAD_LIMIT, Reply, is_settled, ju
 pub use laws::{
     a_served_file_is_the_body, bytes_are_one_reply, decided_fronts_have_the_body,
     ended_replies_are_decided, fronts_of_replies_are_good,
+    nothing_is_decided_before_the_first_byte, undecided_bytes_are_few,
 };
 pub use request::request_text;

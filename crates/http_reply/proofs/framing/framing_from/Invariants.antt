@@ -1,4 +1,4 @@
-use Rattle.std.proofs.Common.{◌≡◌, ◌≤◌, length, map, None, Some}
+use Rattle.std.proofs.Common.{◌≡◌, length, map, None, Some}
 use Rattle.std.specs.Prelude.{All, option_copied}
 use Rattle.httparse.specs.Spans.{IsHeaderWithin, header_bytes}
 use Rattle.http_reply.specs.Framing.{found_in}
