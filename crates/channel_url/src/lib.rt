@@ -20,3 +20,6 @@ pub use laws::{
 };
 pub use package::package_url;
 pub use shard::shard_url;
+
+#[cfg(test)]
+mod tests;

@@ -56,7 +56,7 @@ pub(crate) fn slashed(alloc: Global, text: &str) -> Result<String, AllocError>
 }
 
 // Whether a text ends in `/`.
-fn is_slashed(text: &str) -> bool
+pub(crate) fn is_slashed(text: &str) -> bool
     ensures { result ≡ is_slashed text.now }
 {
     text.ends_with('/')

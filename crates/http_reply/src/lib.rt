@@ -17,3 +17,6 @@ pub use laws::{
     nothing_is_decided_before_the_first_byte, undecided_bytes_are_few,
 };
 pub use request::request_text;
+
+#[cfg(test)]
+mod tests;
