@@ -621,7 +621,9 @@ fn replies_are_judged_whole_and_at_every_cut(rt: HostRuntime) -> Result<(), Fail
 // So many bytes, by what they begin and end with; between these stands one letter again and again.
 fn padded(alloc: Global, front: &[u8], size: u64, end: &[u8]) -> Result<Vec<u8>, AllocError> {
     let mut bytes = front.to_vec(alloc)?;
-    let between = size.saturating_sub(front.len() as u64).saturating_sub(end.len() as u64);
+    let between = size
+        .saturating_sub(front.len() as u64)
+        .saturating_sub(end.len() as u64);
     for _ in 0..between {
         bytes.push(b'a')?;
     }

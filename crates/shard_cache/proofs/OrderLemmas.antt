@@ -1,5 +1,5 @@
 -- Listed rows, rows that are taken out, and where a row stands in the order.
-use Rattle.std.proofs.Common.{◌≡◌, ◌≢◌, ℕ, ◌+◌, ◌==◌, if◌then◌else◌, Bool, true, false, true≢false, List, [], ◌∷◌, ◌++◌, Some, refl, sym, ap, ◌∙◌, arith, eq-eqb, ne_eqb}
+use Rattle.std.proofs.Common.{◌≡◌, ◌≢◌, ℕ, zero, suc, ◌+◌, ◌<◌, ◌≤◌, length, ◌==◌, if◌then◌else◌, Bool, true, false, true≢false, List, [], ◌∷◌, ◌++◌, Some, refl, sym, ap, ◌∙◌, arith, eq-eqb, ne_eqb}
 use Rattle.shard_cache.specs.Recency.{is_listed, without, only, oldest_of, AreListedOnce, AreBelow}
 
 -- a row that is listed and one that isn't are two
@@ -147,3 +147,44 @@ unlisted_above row (p ∷ ps) below =
 pub below_more : (row : ℕ) (order : List (ℕ × ℕ)) → AreBelow row order → AreBelow (row + 1) order
 below_more row [] below = tt
 below_more row (p ∷ ps) below = (omega (arith, below.0), below_more row ps below.1)
+
+-- ---- room
+pub once_without : (row : ℕ) (order : List (ℕ × ℕ)) → AreListedOnce order → AreListedOnce (without row order)
+once_without row [] once = tt
+once_without row (p ∷ ps) once = split (p.0 == row) refl (once_without row ps once.1)
+  where
+    split : (b : Bool) → (p.0 == row) ≡ b → AreListedOnce (without row ps) → AreListedOnce (if b then without row ps else p ∷ without row ps)
+    split true e rest = rest
+    split false e rest = (still_listed row p.0 ps (λ same. true≢false (sym (eq-eqb p.0 row same) ∙ e)) ∙ once.0, rest)
+
+-- a row that is listed once takes one place
+pub length_without : (row : ℕ) (order : List (ℕ × ℕ)) → AreListedOnce order → length order ≤ suc (length (without row order))
+length_without row [] once = omega arith
+length_without row (p ∷ ps) once = split (p.0 == row) refl (length_without row ps once.1)
+  where
+    split : (b : Bool) → (p.0 == row) ≡ b → length ps ≤ suc (length (without row ps)) → suc (length ps) ≤ suc (length (if b then without row ps else p ∷ without row ps))
+    split true e rest =
+        let same : p.0 ≡ row = grind (arith, e) in
+        let gone = ap length (without_unlisted row ps (ap (λ r. is_listed r ps) (sym same) ∙ once.0)).0 in omega (arith, gone)
+    split false e rest = omega (arith, rest)
+
+below_without : (rows : ℕ) (order : List (ℕ × ℕ)) → AreBelow (suc rows) order → AreBelow rows (without rows order)
+below_without rows [] below = tt
+below_without rows (p ∷ ps) below = split (p.0 == rows) refl (below_without rows ps below.1)
+  where
+    split : (b : Bool) → (p.0 == rows) ≡ b → AreBelow rows (without rows ps) → AreBelow rows (if b then without rows ps else p ∷ without rows ps)
+    split true e rest = rest
+    split false e rest = let first = below.0 in (grind (arith, e, first), rest)
+
+-- rows that are listed once, and below a number, are at most so many
+pub at_most : (rows : ℕ) (order : List (ℕ × ℕ)) → AreListedOnce order → AreBelow rows order → length order ≤ rows
+at_most zero [] once below = omega arith
+at_most zero (p ∷ ps) once below = absurd (omega (arith, below.0))
+at_most (suc rows) order once below =
+    let rest = at_most rows (without rows order) (once_without rows order once) (below_without rows order below) in
+    let len = length_without rows order once in omega (arith, rest, len)
+
+-- so where a row isn't listed there is room for it
+pub room_for : (rows row : ℕ) (order : List (ℕ × ℕ)) → AreListedOnce order → AreBelow rows order → row < rows → is_listed row order ≡ false → length order < rows
+room_for rows row order once below within unlisted =
+    let all = at_most rows ((row, 0) ∷ order) (unlisted, once) (within, below) in omega (arith, all)

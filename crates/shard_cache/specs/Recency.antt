@@ -8,9 +8,11 @@ pub record Listing : Type 0 where
   pub rows : ℕ
   pub budget : ℕ
 
+-- a listing of these parts
 abbrev pub listing : List (ℕ × ℕ) → ℕ → ℕ → Listing
 listing order rows budget = record { order = order; rows = rows; budget = budget }
 
+-- the code of a listing, by its parts
 abbrev pub listing_code : Coded Listing
 listing_code =
     code_by (List (ℕ × ℕ) × (ℕ × ℕ)) (coded× (coded_list (coded× coded_ℕ coded_ℕ)) (coded× coded_ℕ coded_ℕ)) (λ l. (l.order, (l.rows, l.budget))) (λ p. listing p.0 p.1.0 p.1.1) (λ _. refl)
