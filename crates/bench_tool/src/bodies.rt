@@ -4,6 +4,7 @@
 
 ghost use Rattle.std.specs.Prelude.{◌<◌, length, IfOk};
 
+use crate::copies::copied;
 use crate::words::Words;
 use anyhow::{Context, anyhow};
 use digest_gate::{Body, Digest};
@@ -22,7 +23,7 @@ fn first_body(alloc: Global, input: &[u8]) -> anyhow::Result<(Body, &[u8])>
     let (bytes, behind) = rest
         .split_at_checked(u32::from_be_bytes(*len) as usize)
         .context("an entry ends within its bytes")?;
-    let body = Body::check(bytes.to_vec(alloc)?, Digest(*digest)).map_err(|_| anyhow!(
+    let body = Body::check(copied(alloc, bytes)?, Digest(*digest)).map_err(|_| anyhow!(
         "an entry has another digest"
     ))?;
     Ok((body, behind))

@@ -7,6 +7,7 @@
 #![tactic(auto)]
 
 mod bodies;
+mod copies;
 mod names;
 mod shards;
 mod versions;

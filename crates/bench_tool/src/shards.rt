@@ -10,6 +10,7 @@
 //! it stands in packages.conda, its record), writes the shard of these files, and prints its bytes in
 //! hexadecimal digits, a line a shard (`bench/shard_msgpack`).
 
+use crate::copies::copied;
 use crate::words::Words;
 use crate::writing;
 use anyhow::{Context, anyhow};
@@ -24,7 +25,7 @@ fn first_piece(bytes: &[u8]) -> Option<(&[u8], &[u8])> {
 }
 
 fn read_shard(alloc: Global, piece: &[u8]) -> anyhow::Result<Shard> {
-    Shard::read(alloc, piece.to_vec(alloc)?).map_err(|refusal| anyhow!("{refusal:?}"))
+    Shard::read(alloc, copied(alloc, piece)?).map_err(|refusal| anyhow!("{refusal:?}"))
 }
 
 // How many shards and rows were read. The counts stand still at the end of their type.
@@ -65,7 +66,7 @@ fn copy_all(alloc: Global, bytes: &[u8]) -> anyhow::Result<Tally> {
         let Some((piece, rest)) = first_piece(left) else {
             break;
         };
-        let copy = piece.to_vec(alloc)?;
+        let copy = copied(alloc, piece)?;
         tally.shards = tally.shards.saturating_add(u64::from(!copy.is_empty()));
         left = rest;
     }

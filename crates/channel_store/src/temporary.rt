@@ -84,14 +84,20 @@ fn path_of(alloc: Global, folder: &str, number: u32) -> Result<String, AllocErro
 }
 
 // A new file at this path whose lock is ours, or none where the path is taken. It never opens what
-// stands there.
+// stands there. Where the lock can't be taken the new file is removed again.
 fn create<R: Files<File = File>>(rt: &R, path: &str) -> io::Result<Option<File>> {
     let file = match File::options().write(true).create_new(true).open(rt, path) {
         Ok(file) => file,
         Err(error) if error.kind() == ErrorKind::AlreadyExists => return Ok(None),
         Err(error) => return Err(error),
     };
-    Ok(is_ours(rt, path, &file)?.then_some(file))
+    match is_ours(rt, path, &file) {
+        Ok(ours) => Ok(ours.then_some(file)),
+        Err(error) => {
+            let _ = fs::remove_file(rt, path);
+            Err(error)
+        }
+    }
 }
 
 // Removes the plain file at this path, if its lock is free. The lock is held until it is gone.

@@ -1,7 +1,6 @@
 -- What was read of each key of a record, as its places.
-use Rattle.std.proofs.Common.{◌≡◌, refl, ap, ℕ, Bool, true, cond, ◌&&◌, List}
+use Rattle.std.proofs.Common.{◌≡◌, refl, ap, ℕ, Bool, true, false, cond, ◌&&◌, List}
 use Rattle.std.specs.Prelude.{Ok, Err, Option, Some, None, is_some}
-use Rattle.std.specs.Option.{option_flatten}
 use Rattle.gateway_words.specs.Places.{Position}
 use Rattle.gateway_words.specs.Reading.{◌>>=◌}
 use Rattle.mp_codec.specs.declared.fault.FaultKind.TheVariants as kind
@@ -10,19 +9,22 @@ use Rattle.mp_codec.specs.Maps.{Read, known_end_from}
 use Rattle.mp_codec.specs.declared.span.Span.{Span}
 use Rattle.conda_record.specs.declared.reading.Found.{Found}
 use Rattle.conda_record.specs.Placing.{Place, TextAt, NumberIs, OptionalTextAt, DigestAt, number_in, optional_span_in, digest_span_in, places_in, places_end_from}
-use Rattle.conda_record.specs.Found.{kept, known}
+use Rattle.conda_record.specs.Found.{kept, met, known}
 
-pub number_is : (o : Option (Option ℕ)) → number_in (kept NumberIs o) ≡ option_flatten o
-number_is (Some n) = refl
-number_is None = refl
+pub number_is : (o : Option ℕ) (other : Bool) → number_in (met NumberIs o other) ≡ o
+number_is (Some n) other = refl
+number_is None true = refl
+number_is None false = refl
 
-pub optional_text_is : (o : Option (Option Span)) → optional_span_in (kept OptionalTextAt o) ≡ option_flatten o
-optional_text_is (Some s) = refl
-optional_text_is None = refl
+pub optional_text_is : (o : Option Span) (other : Bool) → optional_span_in (met OptionalTextAt o other) ≡ o
+optional_text_is (Some s) other = refl
+optional_text_is None true = refl
+optional_text_is None false = refl
 
-pub digest_is : (o : Option (Option Span)) → digest_span_in (kept DigestAt o) ≡ option_flatten o
-digest_is (Some s) = refl
-digest_is None = refl
+pub digest_is : (o : Option Span) (other : Bool) → digest_span_in (met DigestAt o other) ≡ o
+digest_is (Some s) other = refl
+digest_is None true = refl
+digest_is None false = refl
 
 -- where the required keys were read, the end of the record gives its places
 pub ends : (f : Found) (here : Position) (name version build : Span) → f.name ≡ Some name → f.version ≡ Some version → f.build ≡ Some build → places_end_from (known f) here ≡ Ok (places_in (known f), here)

@@ -4,6 +4,7 @@ pub mod RecordLemmas
 pub mod RefusalLemmas
 pub mod FoundLemmas
 pub mod PlacesLemmas
+pub mod OutcomeLemmas
 pub mod WrittenLemmas
 pub mod CountLemmas
 pub mod CopyLemmas

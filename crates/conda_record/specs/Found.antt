@@ -1,5 +1,5 @@
 -- What was read so far of a record, by the places of its keys.
-use Rattle.std.specs.Prelude.{ℕ, List, [], ◌∷◌, Option, Some, None}
+use Rattle.std.specs.Prelude.{ℕ, Bool, true, false, List, [], ◌∷◌, Option, Some, None}
 use Rattle.std.specs.declared.alloc.Global.{Global}
 use Rattle.std.specs.declared.vec.Vec.{Vec}
 use Rattle.mp_codec.specs.declared.span.Span.{Span}
@@ -30,6 +30,12 @@ abbrev pub kept : {X : Type 0} → (X → Place) → Option X → Option Place
 kept place (Some x) = Some (place x)
 kept place None = None
 
+-- the same of a key whose value may be of another kind, where `other` tells that it was met with one
+abbrev pub met : {X : Type 0} → (Option X → Place) → Option X → Bool → Option Place
+met place (Some x) other = Some (place (Some x))
+met place None true = Some (place None)
+met place None false = None
+
 -- the spans of a list that was read, if it is one
 abbrev pub spans_read : Option (Vec Span Global) → Option (List Span)
 spans_read (Some v) = Some v.items
@@ -42,7 +48,9 @@ list_read list = TextsAt (spans_read list)
 -- what was read, by the places of the keys
 abbrev pub known : Found → List (Option Place)
 known f =
-    kept TextAt f.name ∷ kept TextAt f.version ∷ kept TextAt f.build ∷ kept NumberIs f.build_number
-    ∷ kept list_read f.depends ∷ kept list_read f.constrains ∷ kept OptionalTextAt f.subdir
-    ∷ kept DigestAt f.md5 ∷ kept DigestAt f.sha256 ∷ kept NumberIs f.size ∷ kept NumberIs f.timestamp
-    ∷ kept OptionalTextAt f.license ∷ kept OptionalTextAt f.noarch ∷ []
+    kept TextAt f.name ∷ kept TextAt f.version ∷ kept TextAt f.build
+    ∷ met NumberIs f.build_number f.others.build_number ∷ met list_read f.depends f.others.depends
+    ∷ met list_read f.constrains f.others.constrains ∷ met OptionalTextAt f.subdir f.others.subdir
+    ∷ met DigestAt f.md5 f.others.md5 ∷ met DigestAt f.sha256 f.others.sha256
+    ∷ met NumberIs f.size f.others.size ∷ met NumberIs f.timestamp f.others.timestamp
+    ∷ met OptionalTextAt f.license f.others.license ∷ met OptionalTextAt f.noarch f.others.noarch ∷ []

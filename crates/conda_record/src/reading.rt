@@ -1,6 +1,6 @@
 //! Reading the spans of a record from a cursor, key by key.
 
-ghost use Rattle.std.specs.Prelude.{◌≡◌, List, ℕ, IfOk, IfErr, IfSome, OnErr, MatchResult, None, is_some, slice_index_or};
+ghost use Rattle.std.specs.Prelude.{◌≡◌, ◌≤◌, Bool, List, ℕ, length, IfOk, IfErr, IfSome, OnErr, MatchResult, Some, None, is_some, slice_index_or};
 ghost use Rattle.gateway_words.specs.Places.{Position};
 ghost use Rattle.gateway_words.specs.Reading.{Gives};
 ghost use Rattle.mp_codec.specs.Fault.{IsFirstFault, WithBreaks};
@@ -11,7 +11,7 @@ ghost use Rattle.conda_record.specs.Record.{Fields, record_keys, RecordFault, Re
 ghost use Rattle.conda_record.specs.Reading.{fault_of, text, number, optional_text, texts, digest};
 ghost use Rattle.conda_record.specs.Places.{fields_at};
 ghost use Rattle.conda_record.specs.Placing.{TextAt, NumberIs, OptionalTextAt, DigestAt, kept_by, place_from, places_end_from, place_pairs_from, places_from, spans_in};
-ghost use Rattle.conda_record.specs.Found.{place, kept, list_read, known};
+ghost use Rattle.conda_record.specs.Found.{place, kept, met, list_read, known};
 
 use crate::refusal::RecordRefusal;
 use crate::spans::RecordSpans;
@@ -39,60 +39,129 @@ enum Key {
     Other,
 }
 
-// What was read so far: of each known key what stands behind it, or None where the key wasn't met; a
-// value of another kind is `Some(None)`.
+// What was read so far: of each known key what stands behind it, or None where the key wasn't met or
+// has a value of another kind, which `others` tells apart.
 #[derive(Drop)]
 struct Found {
     name: Option<Span>,
     version: Option<Span>,
     build: Option<Span>,
-    build_number: Option<Option<u64>>,
-    depends: Option<Option<Vec<Span>>>,
-    constrains: Option<Option<Vec<Span>>>,
-    subdir: Option<Option<Span>>,
-    md5: Option<Option<Span>>,
-    sha256: Option<Option<Span>>,
-    size: Option<Option<u64>>,
-    timestamp: Option<Option<u64>>,
-    license: Option<Option<Span>>,
-    noarch: Option<Option<Span>>,
+    build_number: Option<u64>,
+    depends: Option<Vec<Span>>,
+    constrains: Option<Vec<Span>>,
+    subdir: Option<Span>,
+    md5: Option<Span>,
+    sha256: Option<Span>,
+    size: Option<u64>,
+    timestamp: Option<u64>,
+    license: Option<Span>,
+    noarch: Option<Span>,
+    others: Others,
 }
 
-// The known key with these bytes.
+// The keys that were met with a value of another kind.
+#[derive(Drop)]
+struct Others {
+    build_number: bool,
+    depends: bool,
+    constrains: bool,
+    subdir: bool,
+    md5: bool,
+    sha256: bool,
+    size: bool,
+    timestamp: bool,
+    license: bool,
+    noarch: bool,
+}
+
+// The known key with these bytes. Its length says which few it may be.
 fn key_of(key: Option<&[u8]>) -> Key
     ensures { place result ≡ place_of record_keys (bytes_behind key.entry) }
 {
     let Some(bytes) = key else {
         return Key::Other;
     };
-    if bytes == b"name".as_slice() {
-        Key::Name
-    } else if bytes == b"version".as_slice() {
-        Key::Version
-    } else if bytes == b"build".as_slice() {
-        Key::Build
-    } else if bytes == b"build_number".as_slice() {
-        Key::BuildNumber
-    } else if bytes == b"depends".as_slice() {
-        Key::Depends
-    } else if bytes == b"constrains".as_slice() {
-        Key::Constrains
-    } else if bytes == b"subdir".as_slice() {
-        Key::Subdir
-    } else if bytes == b"md5".as_slice() {
-        Key::Md5
-    } else if bytes == b"sha256".as_slice() {
-        Key::Sha256
-    } else if bytes == b"size".as_slice() {
-        Key::Size
-    } else if bytes == b"timestamp".as_slice() {
-        Key::Timestamp
-    } else if bytes == b"license".as_slice() {
-        Key::License
-    } else if bytes == b"noarch".as_slice() {
-        Key::Noarch
-    } else {
-        Key::Other
+    match bytes.len() {
+        0..=5 => short_key(bytes),
+        6 => key_of_six(bytes),
+        7 => key_of_seven(bytes),
+        9 => key_of_nine(bytes),
+        10 => key_of_ten(bytes),
+        12 => key_of_twelve(bytes),
+        _ => Key::Other,
+    }
+}
+
+// The known key with these bytes, of which there are at most five.
+fn short_key(bytes: &[u8]) -> Key
+    requires { length bytes.now ≤ 5 }
+    ensures { place result ≡ place_of record_keys (Some bytes.now) }
+{
+    match bytes {
+        b"md5" => Key::Md5,
+        b"name" => Key::Name,
+        b"size" => Key::Size,
+        b"build" => Key::Build,
+        _ => Key::Other,
+    }
+}
+
+// The known key with these six bytes.
+fn key_of_six(bytes: &[u8]) -> Key
+    requires { length bytes.now ≡ 6 }
+    ensures { place result ≡ place_of record_keys (Some bytes.now) }
+{
+    match bytes {
+        b"subdir" => Key::Subdir,
+        b"sha256" => Key::Sha256,
+        b"noarch" => Key::Noarch,
+        _ => Key::Other,
+    }
+}
+
+// The known key with these seven bytes.
+fn key_of_seven(bytes: &[u8]) -> Key
+    requires { length bytes.now ≡ 7 }
+    ensures { place result ≡ place_of record_keys (Some bytes.now) }
+{
+    match bytes {
+        b"version" => Key::Version,
+        b"depends" => Key::Depends,
+        b"license" => Key::License,
+        _ => Key::Other,
+    }
+}
+
+// The known key with these nine bytes.
+fn key_of_nine(bytes: &[u8]) -> Key
+    requires { length bytes.now ≡ 9 }
+    ensures { place result ≡ place_of record_keys (Some bytes.now) }
+{
+    match bytes {
+        b"timestamp" => Key::Timestamp,
+        _ => Key::Other,
+    }
+}
+
+// The known key with these ten bytes.
+fn key_of_ten(bytes: &[u8]) -> Key
+    requires { length bytes.now ≡ 10 }
+    ensures { place result ≡ place_of record_keys (Some bytes.now) }
+{
+    match bytes {
+        b"constrains" => Key::Constrains,
+        _ => Key::Other,
+    }
+}
+
+// The known key with these twelve bytes.
+fn key_of_twelve(bytes: &[u8]) -> Key
+    requires { length bytes.now ≡ 12 }
+    ensures { place result ≡ place_of record_keys (Some bytes.now) }
+{
+    match bytes {
+        b"build_number" => Key::BuildNumber,
+        _ => Key::Other,
     }
 }
 
@@ -115,6 +184,18 @@ impl Found {
             timestamp: None,
             license: None,
             noarch: None,
+            others: Others {
+                build_number: false,
+                depends: false,
+                constrains: false,
+                subdir: false,
+                md5: false,
+                sha256: false,
+                size: false,
+                timestamp: false,
+                license: false,
+                noarch: false,
+            },
         }
     }
 
@@ -126,16 +207,16 @@ impl Found {
             Key::Name => self.name.is_some(),
             Key::Version => self.version.is_some(),
             Key::Build => self.build.is_some(),
-            Key::BuildNumber => self.build_number.is_some(),
-            Key::Depends => self.depends.is_some(),
-            Key::Constrains => self.constrains.is_some(),
-            Key::Subdir => self.subdir.is_some(),
-            Key::Md5 => self.md5.is_some(),
-            Key::Sha256 => self.sha256.is_some(),
-            Key::Size => self.size.is_some(),
-            Key::Timestamp => self.timestamp.is_some(),
-            Key::License => self.license.is_some(),
-            Key::Noarch => self.noarch.is_some(),
+            Key::BuildNumber => self.others.build_number || self.build_number.is_some(),
+            Key::Depends => self.others.depends || self.depends.is_some(),
+            Key::Constrains => self.others.constrains || self.constrains.is_some(),
+            Key::Subdir => self.others.subdir || self.subdir.is_some(),
+            Key::Md5 => self.others.md5 || self.md5.is_some(),
+            Key::Sha256 => self.others.sha256 || self.sha256.is_some(),
+            Key::Size => self.others.size || self.size.is_some(),
+            Key::Timestamp => self.others.timestamp || self.timestamp.is_some(),
+            Key::License => self.others.license || self.license.is_some(),
+            Key::Noarch => self.others.noarch || self.noarch.is_some(),
             Key::Other => false,
         }
     }
@@ -155,42 +236,42 @@ impl Found {
             Key::Name => read_text(cur, &mut self.name),
             Key::Version => read_text(cur, &mut self.version),
             Key::Build => read_text(cur, &mut self.build),
-            Key::BuildNumber => read_number(cur, &mut self.build_number),
-            Key::Depends => read_texts(alloc, cur, &mut self.depends),
-            Key::Constrains => read_texts(alloc, cur, &mut self.constrains),
-            Key::Subdir => read_optional_text(cur, &mut self.subdir),
-            Key::Md5 => read_digest(cur, 16, &mut self.md5),
-            Key::Sha256 => read_digest(cur, 32, &mut self.sha256),
-            Key::Size => read_number(cur, &mut self.size),
-            Key::Timestamp => read_number(cur, &mut self.timestamp),
-            Key::License => read_optional_text(cur, &mut self.license),
-            Key::Noarch => read_optional_text(cur, &mut self.noarch),
+            Key::BuildNumber => read_number(cur, &mut self.build_number, &mut self.others.build_number),
+            Key::Depends => read_texts(alloc, cur, &mut self.depends, &mut self.others.depends),
+            Key::Constrains => read_texts(alloc, cur, &mut self.constrains, &mut self.others.constrains),
+            Key::Subdir => read_optional_text(cur, &mut self.subdir, &mut self.others.subdir),
+            Key::Md5 => read_digest(cur, 16, &mut self.md5, &mut self.others.md5),
+            Key::Sha256 => read_digest(cur, 32, &mut self.sha256, &mut self.others.sha256),
+            Key::Size => read_number(cur, &mut self.size, &mut self.others.size),
+            Key::Timestamp => read_number(cur, &mut self.timestamp, &mut self.others.timestamp),
+            Key::License => read_optional_text(cur, &mut self.license, &mut self.others.license),
+            Key::Noarch => read_optional_text(cur, &mut self.noarch, &mut self.others.noarch),
             Key::Other => Ok(cur.skip()?),
         }
     }
 
     // The record of what was read, which has the required keys.
     #[tactic(auto, unfolding(mp_codec::specs::Maps::known_end_from, crate::specs::Placing::places_end_from))]
-    fn finish(&mut self, alloc: Global, cur: &Cursor<'_>) -> Result<RecordSpans, FormatFault>
-        ensures { Advances (λ r. r) cur.now result (places_end_from (known self.old) cur.now) }
+    fn finish(&mut self, alloc: Global, cur: &Cursor<'_>) -> Result<RecordSpans, RecordRefusal>
+        ensures { Gives (λ r. (r, cur.now)) fault_of result (places_end_from (known self.old) cur.now) }
     {
         let (Some(name), Some(version), Some(build)) = (self.name, self.version, self.build) else {
-            return Err(FormatFault::new(cur.at(), FaultKind::Missing));
+            return Err(RecordRefusal::Fault(FormatFault::new(cur.at(), FaultKind::Missing)));
         };
         Ok(RecordSpans {
             name,
             version,
             build,
-            build_number: self.build_number.flatten().unwrap_or(0),
+            build_number: self.build_number.unwrap_or(0),
             depends: listed(alloc, &mut self.depends),
             constrains: listed(alloc, &mut self.constrains),
-            subdir: self.subdir.flatten(),
-            md5: self.md5.flatten(),
-            sha256: self.sha256.flatten(),
-            size: self.size.flatten(),
-            timestamp: self.timestamp.flatten(),
-            license: self.license.flatten(),
-            noarch: self.noarch.flatten(),
+            subdir: self.subdir,
+            md5: self.md5,
+            sha256: self.sha256,
+            size: self.size,
+            timestamp: self.timestamp,
+            license: self.license,
+            noarch: self.noarch,
         })
     }
 
@@ -210,17 +291,17 @@ impl Found {
             let key = next_key(cur, self)?;
             self.read_value(alloc, cur, key)?;
         }
-        Ok(self.finish(alloc, cur)?)
+        self.finish(alloc, cur)
     }
 }
 
 // The spans of a list that was read, or none.
-fn listed(alloc: Global, slot: &mut Option<Option<Vec<Span>>>) -> Vec<Span>
-    ensures { result.items ≡ spans_in (kept list_read slot.old) }
+fn listed(alloc: Global, slot: &mut Option<Vec<Span>>) -> Vec<Span>
+    ensures { (other : Bool) → result.items ≡ spans_in (met list_read slot.old other) }
 {
     match slot.take() {
-        Some(Some(spans)) => spans,
-        Some(None) | None => Vec::new(alloc),
+        Some(spans) => spans,
+        None => Vec::new(alloc),
     }
 }
 
@@ -236,11 +317,16 @@ fn read_text(cur: &mut Cursor<'_>, slot: &mut Option<Span>) -> Result<(), Record
 
 // Reads a number, or passes over a value of another kind.
 #[inline(never)]
-fn read_number(cur: &mut Cursor<'_>, slot: &mut Option<Option<u64>>) -> Result<(), RecordRefusal>
-    ensures { Gives (λ _. (kept NumberIs slot.new, cur.new)) fault_of result
+fn read_number(
+    cur: &mut Cursor<'_>,
+    slot: &mut Option<u64>,
+    other: &mut bool,
+) -> Result<(), RecordRefusal>
+    ensures { Gives (λ _. (met NumberIs slot.new other.new, cur.new)) fault_of result
         (kept_by number cur.old) }
 {
-    *slot = Some(cur.number_or_skip()?);
+    *slot = cur.number_or_skip()?;
+    *other = slot.is_none();
     Ok(())
 }
 
@@ -248,12 +334,14 @@ fn read_number(cur: &mut Cursor<'_>, slot: &mut Option<Option<u64>>) -> Result<(
 #[inline(never)]
 fn read_optional_text(
     cur: &mut Cursor<'_>,
-    slot: &mut Option<Option<Span>>,
+    slot: &mut Option<Span>,
+    other: &mut bool,
 ) -> Result<(), RecordRefusal>
-    ensures { Gives (λ _. (kept OptionalTextAt slot.new, cur.new)) fault_of result
+    ensures { Gives (λ _. (met OptionalTextAt slot.new other.new, cur.new)) fault_of result
         (kept_by optional_text cur.old) }
 {
-    *slot = Some(span_or_skip(cur)?);
+    *slot = span_or_skip(cur)?;
+    *other = slot.is_none();
     Ok(())
 }
 
@@ -262,12 +350,14 @@ fn read_optional_text(
 fn read_texts(
     alloc: Global,
     cur: &mut Cursor<'_>,
-    slot: &mut Option<Option<Vec<Span>>>,
+    slot: &mut Option<Vec<Span>>,
+    other: &mut bool,
 ) -> Result<(), RecordRefusal>
-    ensures { Gives (λ _. (kept list_read slot.new, cur.new)) fault_of result
+    ensures { Gives (λ _. (met list_read slot.new other.new, cur.new)) fault_of result
         (kept_by texts cur.old) }
 {
-    *slot = Some(spans_or_skip(alloc, cur)?);
+    *slot = spans_or_skip(alloc, cur)?;
+    *other = slot.is_none();
     Ok(())
 }
 
@@ -276,12 +366,14 @@ fn read_texts(
 fn read_digest(
     cur: &mut Cursor<'_>,
     digest_len: u16,
-    slot: &mut Option<Option<Span>>,
+    slot: &mut Option<Span>,
+    other: &mut bool,
 ) -> Result<(), RecordRefusal>
-    ensures { Gives (λ _. (kept DigestAt slot.new, cur.new)) fault_of result
+    ensures { Gives (λ _. (met DigestAt slot.new other.new, cur.new)) fault_of result
         (kept_by (digest digest_len) cur.old) }
 {
-    *slot = Some(digest_span_or_skip(cur, digest_len)?);
+    *slot = digest_span_or_skip(cur, digest_len)?;
+    *other = slot.is_none();
     Ok(())
 }
 
@@ -332,8 +424,10 @@ impl RecordSpans {
         ensures exact { Gives (λ r. (r, cur.new)) fault_of result (places_from cur.old) }
     {
         let mut ahead = cur.copy();
-        let record = read_here(alloc, &mut ahead)?;
-        *cur = ahead;
-        Ok(record)
+        let read = read_here(alloc, &mut ahead);
+        if read.is_ok() {
+            *cur = ahead;
+        }
+        read
     }
 }

@@ -150,6 +150,33 @@ const OTHER_KINDS: [&[u8]; 13] = [
     b"\xc7\x02\x05\xff\xff",
 ];
 
+// Keys that are no strs, or not those of a record.
+const NO_STRS: [&[u8]; 4] = [
+    b"\xc4\x04size",
+    b"\x91\xa4size",
+    b"\xa5size\x00",
+    b"\xa4siz\xff",
+];
+
+// A digest, and its spellings by bytes and by digits.
+const DIGEST: [u8; 16] = [
+    0x01, 0x23, 0x45, 0x67, 0x89, 0xab, 0xcd, 0xef, 0, 0, 0, 0, 0, 0, 0, 0x0f,
+];
+
+const DIGESTS: [&[u8]; 3] = [
+    b"\xc5\x00\x10\x01\x23\x45\x67\x89\xab\xcd\xef\x00\x00\x00\x00\x00\x00\x00\x0f",
+    b"\xd9\x200123456789abcdef000000000000000f",
+    b"\xdb\x00\x00\x00\x200123456789ABCDef000000000000000F",
+];
+
+// Texts that spell no digest of 16 bytes.
+const NO_DIGESTS: [&[u8]; 4] = [
+    b"\xd9\x20g123456789abcdef0000000000000000",
+    b"\xbf0123456789abcdef000000000000000",
+    b"\xd9\x210123456789abcdef00000000000000000",
+    b"\xa1x",
+];
+
 // Where the texts of the record with all keys stand, and those that it has not.
 const PLACES: [(Field, Option<(usize, usize)>); 11] = [
     (Field::Name, Some((22, 27))),
@@ -227,31 +254,45 @@ fn has_required_alone(view: RecordView<'_>) -> bool {
         && view.noarch().is_none()
 }
 
+// Whether the texts are those of the record with all keys.
+fn has_all_texts(view: RecordView<'_>) -> bool {
+    view.name() == "numpy"
+        && view.version() == "1.26.0"
+        && view.build() == "py312_"
+        && view.subdir() == Some("linux-64")
+        && view.license() == Some("BSD-3-Clause")
+        && view.noarch() == Some("python")
+}
+
+// Whether the lists are those of the record with all keys.
+fn has_all_lists(view: RecordView<'_>) -> bool {
+    view.depends_len() == 2
+        && view.depend(0) == Some("python >=3.9")
+        && view.depend(1) == Some("blas")
+        && view.depend(2).is_none()
+        && view.constrains_len() == 1
+        && view.constrain(0) == Some("a <\u{e9}")
+        && view.constrain(1).is_none()
+}
+
+// Whether the numbers and digests are those of the record with all keys.
+fn has_all_numbers(view: RecordView<'_>) -> bool {
+    view.build_number() == 258
+        && view.md5() == Some(MD5)
+        && view.sha256() == Some(SHA256)
+        && view.size() == Some(65_536)
+        && view.timestamp() == Some(0x0000_018a_bcde_f012)
+}
+
 #[test]
 fn reads_all_keys(rt: HostRuntime) -> Result<(), Fail> {
     let mut cursor = Cursor::new(ALL_KEYS);
     let record = read(rt.alloc(), &mut cursor)?;
     assert_eq!(rt; cursor.number_or_skip()?, Some(7));
     assert!(rt; cursor.is_end());
-    let view = record.view();
-    assert_eq!(rt; view.name(), "numpy");
-    assert_eq!(rt; view.version(), "1.26.0");
-    assert_eq!(rt; view.build(), "py312_");
-    assert_eq!(rt; view.build_number(), 258);
-    assert_eq!(rt; view.depends_len(), 2);
-    assert_eq!(rt; view.depend(0), Some("python >=3.9"));
-    assert_eq!(rt; view.depend(1), Some("blas"));
-    assert_eq!(rt; view.depend(2), None);
-    assert_eq!(rt; view.constrains_len(), 1);
-    assert_eq!(rt; view.constrain(0), Some("a <\u{e9}"));
-    assert_eq!(rt; view.constrain(1), None);
-    assert_eq!(rt; view.subdir(), Some("linux-64"));
-    assert_eq!(rt; view.md5(), Some(MD5));
-    assert_eq!(rt; view.sha256(), Some(SHA256));
-    assert_eq!(rt; view.size(), Some(65_536));
-    assert_eq!(rt; view.timestamp(), Some(0x0000_018a_bcde_f012));
-    assert_eq!(rt; view.license(), Some("BSD-3-Clause"));
-    assert_eq!(rt; view.noarch(), Some("python"));
+    assert!(rt; has_all_texts(record.view()));
+    assert!(rt; has_all_lists(record.view()));
+    assert!(rt; has_all_numbers(record.view()));
     Ok(())
 }
 
@@ -287,17 +328,33 @@ fn a_span_is_where_its_text_stands(rt: HostRuntime) -> Result<(), Fail> {
 }
 
 #[test]
-fn a_record_is_shown_and_copied_from_its_spans(rt: HostRuntime) -> Result<(), Fail> {
-    let required = spans(rt.alloc(), REQUIRED)?;
-    assert!(rt; has_required_alone(required.view(REQUIRED)));
-    for (bytes, written) in WRITTEN {
-        let spans = spans(rt.alloc(), bytes)?;
-        let copy = PackageRecord::copy(rt.alloc(), spans.view(bytes))?;
-        let mut out = Vec::new(rt.alloc());
-        if copy.is_writable() {
-            copy.write(&mut out)?;
-        }
-        assert_eq!(rt; out.as_slice(), written, "{bytes:?}");
+fn a_record_is_shown_from_its_spans(rt: HostRuntime) -> Result<(), Fail> {
+    let record = spans(rt.alloc(), REQUIRED)?;
+    assert!(rt; has_required_alone(record.view(REQUIRED)));
+    Ok(())
+}
+
+// What a record is written as, behind a nil.
+fn put(alloc: Global, record: &PackageRecord) -> Result<Vec<u8>, Fail> {
+    let mut out = b"\xc0".to_vec(alloc)?;
+    if !record.is_writable() {
+        return Err("a record that was read can't be written".into());
+    }
+    record.write(&mut out)?;
+    Ok(out)
+}
+
+// What a copy of the record that some bytes begin with is written as, behind a nil.
+fn copied(alloc: Global, bytes: &[u8]) -> Result<Vec<u8>, Fail> {
+    let spans = spans(alloc, bytes)?;
+    put(alloc, &PackageRecord::copy(alloc, spans.view(bytes))?)
+}
+
+#[test]
+fn a_record_is_copied_from_its_spans(rt: HostRuntime) -> Result<(), Fail> {
+    for (bytes, expected) in WRITTEN {
+        let out = copied(rt.alloc(), bytes)?;
+        assert_eq!(rt; out.as_slice().strip_prefix(b"\xc0"), Some(expected));
     }
     Ok(())
 }
@@ -315,71 +372,51 @@ fn a_value_of_another_kind_counts_as_missing(rt: HostRuntime) -> Result<(), Fail
 
 #[test]
 fn a_key_that_is_no_str_is_not_known(rt: HostRuntime) -> Result<(), Fail> {
-    let alloc = rt.alloc();
-    for key in [
-        b"\xc4\x04size".as_slice(),
-        b"\x91\xa4size",
-        b"\xa5size\x00",
-        b"\xa4siz\xff",
-    ] {
-        let record = with_pair(alloc, &[key, b"\x07"])?;
+    for key in NO_STRS {
+        let record = with_pair(rt.alloc(), &[key, b"\x07"])?;
         assert!(rt; has_required_alone(record.view()), "{key:?}");
     }
     Ok(())
 }
 
+// The md5 of a record in which this value stands behind that key.
+fn md5_of(alloc: Global, value: &[u8]) -> Result<Option<[u8; 16]>, Fail> {
+    let record = with_pair(alloc, &[b"\xa3md5", value])?;
+    Ok(record.view().md5())
+}
+
 #[test]
 fn a_digest_is_read_from_bytes_or_digits(rt: HostRuntime) -> Result<(), Fail> {
-    let alloc = rt.alloc();
-    let key = b"\xa3md5".as_slice();
-    let spelled: [&[u8]; 3] = [
-        b"\xc5\x00\x10\x01\x23\x45\x67\x89\xab\xcd\xef\x00\x00\x00\x00\x00\x00\x00\x0f",
-        b"\xd9\x200123456789abcdef000000000000000f",
-        b"\xdb\x00\x00\x00\x200123456789ABCDef000000000000000F",
-    ];
-    for value in spelled {
-        let record = with_pair(alloc, &[key, value])?;
-        let digest = [
-            0x01, 0x23, 0x45, 0x67, 0x89, 0xab, 0xcd, 0xef, 0, 0, 0, 0, 0, 0, 0, 0x0f,
-        ];
-        assert_eq!(rt; record.view().md5(), Some(digest), "{value:?}");
+    for value in DIGESTS {
+        assert_eq!(rt; md5_of(rt.alloc(), value)?, Some(DIGEST), "{value:?}");
     }
-    let missing: [&[u8]; 4] = [
-        b"\xd9\x20g123456789abcdef0000000000000000",
-        b"\xbf0123456789abcdef000000000000000",
-        b"\xd9\x210123456789abcdef00000000000000000",
-        b"\xa1x",
-    ];
-    for value in missing {
-        let record = with_pair(alloc, &[key, value])?;
-        assert_eq!(rt; record.view().md5(), None, "{value:?}");
+    for value in NO_DIGESTS {
+        assert_eq!(rt; md5_of(rt.alloc(), value)?, None, "{value:?}");
     }
     Ok(())
 }
 
+// What the record that some bytes begin with is written as, behind a nil.
+fn written(alloc: Global, bytes: &[u8]) -> Result<Vec<u8>, Fail> {
+    let record = read(alloc, &mut Cursor::new(bytes))?;
+    put(alloc, &record)
+}
+
+// Whether these bytes are one record, with nothing behind it.
+fn is_record(alloc: Global, bytes: &[u8]) -> Result<bool, Fail> {
+    let mut cursor = Cursor::new(bytes);
+    let _record = read(alloc, &mut cursor)?;
+    Ok(cursor.is_end())
+}
+
 #[test]
-fn writes_what_another_program_writes_behind_what_stands(rt: HostRuntime) -> Result<(), Fail> {
-    let alloc = rt.alloc();
+fn writes_what_another_program_writes(rt: HostRuntime) -> Result<(), Fail> {
     for (bytes, expected) in WRITTEN {
-        let record = read(alloc, &mut Cursor::new(bytes))?;
-        let mut out = b"\xc0".to_vec(alloc)?;
-        if !record.is_writable() {
-            return Err("a record that was read can't be written".into());
-        }
-        record.write(&mut out)?;
-        assert_eq!(rt;
-            out.as_slice().split_first(),
-            Some((&0xc0, expected)),
-            "{bytes:?}"
-        );
-        let mut again = Cursor::new(expected);
-        let mut twice = Vec::new(alloc);
-        let second = read(alloc, &mut again)?;
-        if second.is_writable() {
-            second.write(&mut twice)?;
-        }
-        assert!(rt; again.is_end());
-        assert_eq!(rt; twice.as_slice(), expected, "{bytes:?}");
+        let out = written(rt.alloc(), bytes)?;
+        assert_eq!(rt; out.as_slice().strip_prefix(b"\xc0"), Some(expected));
+        let again = written(rt.alloc(), expected)?;
+        assert_eq!(rt; again.as_slice().strip_prefix(b"\xc0"), Some(expected));
+        assert!(rt; is_record(rt.alloc(), expected)?);
     }
     Ok(())
 }

@@ -3,7 +3,8 @@ pub mod Status
 pub mod Texts
 pub mod Show
 pub mod Index
-pub mod Files
+pub mod Command
+pub mod Meant
 pub use Rattle.gateway_words.specs.Causes
 pub use Rattle.match_spec.specs.Parts
 pub use Rattle.match_spec.specs.Matching

@@ -16,16 +16,21 @@ is_option (b ∷ bs) = b == dash
 abbrev pub spec_word : List ℕ → Option Meaning
 spec_word word = if is_option word then None else result_ok (spec_of word)
 
--- the spec whose records the words ask for, where they are those of show: its own name and a spec
+-- the spec that the words behind the name of show say: one word
+abbrev pub show_words : List (List ℕ) → Option Meaning
+show_words (word ∷ []) = spec_word word
+show_words words = None
+
+-- the spec whose records the words ask for, where they are those of show
 abbrev pub shown_spec : List (List ℕ) → Option Meaning
-shown_spec (command ∷ word ∷ []) = if bytes_eq command (codes "show") then spec_word word else None
-shown_spec words = None
+shown_spec (name ∷ words) = if bytes_eq name (codes "show") then show_words words else None
+shown_spec [] = None
 
 -- the place that a word is, if it is one and no option
 abbrev pub place_word : List ℕ → Option (List ℕ)
 place_word word = if is_option word then None else (if is_place word then Some word else None)
 
--- the place that the words ask to be indexed, where they are those of index: its own name and a place
-abbrev pub indexed_place : List (List ℕ) → Option (List ℕ)
-indexed_place (command ∷ word ∷ []) = if bytes_eq command (codes "index") then place_word word else None
-indexed_place words = None
+-- the place that the words behind the name of index say: one word
+abbrev pub index_words : List (List ℕ) → Option (List ℕ)
+index_words (word ∷ []) = place_word word
+index_words words = None

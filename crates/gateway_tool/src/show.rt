@@ -60,7 +60,12 @@ pub fn run_show<I: Source, O: Sink>(
 }
 
 // Prints the records that a spec matches from the shard that the input is.
-fn show<I: Source, O: Sink>(alloc: Global, spec: &Spec, input: &mut I, out: &mut O) -> (u8, Note)
+pub(crate) fn show<I: Source, O: Sink>(
+    alloc: Global,
+    spec: &Spec,
+    input: &mut I,
+    out: &mut O,
+) -> (u8, Note)
     ensures answers { ShowAnswers spec.now (I.left input.old)
         (O.written out.old) (O.written out.new) result.0 result.1 }
     ensures whole { result.0 ≡ status_ok → IsAtEnd (I.left input.new) }

@@ -1,8 +1,10 @@
 //! The words of a command line.
-ghost use Rattle.std.specs.Prelude.{◌≡◌, true, IfOk, IfSome, IsErrOf};
+ghost use Rattle.std.specs.Prelude.{◌≡◌, true, Some, None, IfOk, IfSome, IsErrOf};
 ghost use Rattle.channel_store.specs.Names.{is_place};
 ghost use Rattle.std.specs.Option.{option_copied};
-ghost use Rattle.gateway_tool.specs.Words.{is_option, spec_word, place_word, shown_spec, indexed_place};
+ghost use Rattle.gateway_tool.specs.Words.{is_option, spec_word, place_word, show_words, index_words, shown_spec};
+ghost use Rattle.gateway_tool.specs.Command.{command_of};
+ghost use Rattle.gateway_tool.specs.Meant.{meant, HasPlace};
 
 use channel_store::is_place;
 use match_spec::{Spec, SpecRefusal};
@@ -18,25 +20,65 @@ pub(crate) enum WordsRefusal {
     Memory,
 }
 
+// What words ask for.
+#[derive(Drop)]
+pub(crate) enum Command<'a> {
+    // The records that a spec matches, of the shard that the input is.
+    Show(Spec),
+    // That a place be indexed.
+    Index(&'a str),
+}
+
+// What the words ask for.
+pub(crate) fn command_of(alloc: Global, words: &[Text]) -> Result<Command<'_>, WordsRefusal>
+    ensures found { IfOk result (λ command. command_of words.now ≡ Some (meant command)) }
+    ensures place { IfOk result HasPlace }
+    ensures usage { IsErrOf result WordsRefusal.Usage → command_of words.now ≡ None }
+{
+    let [name, words @ ..] = words else {
+        return Err(WordsRefusal::Usage);
+    };
+    if name.as_str() == "show" {
+        return Ok(Command::Show(show_words(alloc, words)?));
+    }
+    if name.as_str() == "index" {
+        return match index_words(words) {
+            Some(place) => Ok(Command::Index(place)),
+            None => Err(WordsRefusal::Usage),
+        };
+    }
+    Err(WordsRefusal::Usage)
+}
+
 // The spec whose records the words ask for.
 pub(crate) fn shown_spec(alloc: Global, words: &[Text]) -> Result<Spec, WordsRefusal>
     ensures found { IfOk result (λ spec. shown_spec words.now ≡ Some spec) }
     ensures usage { IsErrOf result WordsRefusal.Usage → shown_spec words.now ≡ None }
 {
     match words {
-        [command, word] if command.as_str() == "show" => spec_word(alloc, word.as_str()),
+        [name, words @ ..] if name.as_str() == "show" => show_words(alloc, words),
         _ => Err(WordsRefusal::Usage),
     }
 }
 
-// The place that the words ask to be indexed.
-pub(crate) fn indexed_place(words: &[Text]) -> Option<&str>
-    ensures same { option_copied result ≡ indexed_place words.now }
-    ensures place { IfSome result (λ place. is_place place.now ≡ true) }
-    ensures no_show { IfSome result (λ place. shown_spec words.now ≡ None) }
+// The spec that the words behind the name of `show` say.
+fn show_words(alloc: Global, words: &[Text]) -> Result<Spec, WordsRefusal>
+    ensures found { IfOk result (λ spec. show_words words.now ≡ Some spec) }
+    ensures usage { IsErrOf result WordsRefusal.Usage → show_words words.now ≡ None }
 {
     match words {
-        [command, word] if command.as_str() == "index" => place_word(word.as_str()),
+        [word] => spec_word(alloc, word.as_str()),
+        _ => Err(WordsRefusal::Usage),
+    }
+}
+
+// The place that the words behind the name of `index` say.
+fn index_words(words: &[Text]) -> Option<&str>
+    ensures same { option_copied result ≡ index_words words.now }
+    ensures place { IfSome result (λ place. is_place place.now ≡ true) }
+{
+    match words {
+        [word] => place_word(word.as_str()),
         _ => None,
     }
 }

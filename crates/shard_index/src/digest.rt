@@ -14,10 +14,7 @@ pub(crate) fn digest(cur: &mut Cursor<'_>) -> Result<Digest, FormatFault>
     ensures { Advances (λ digest. digest) cur.new result (digest_from cur.old) }
 {
     let at = cur.at();
-    let wrong = FormatFault {
-        at: at as u64,
-        kind: FaultKind::Wrong,
-    };
+    let wrong = FormatFault::new(at, FaultKind::Wrong);
     let head = cur.head()?;
     if !is_digest_head(head) {
         return Err(wrong);

@@ -179,10 +179,7 @@ fn next_key(cur: &mut Cursor<'_>, found: &FoundInfo) -> Result<InfoKey, FormatFa
     let at = cur.at();
     let key = key_of(cur.str_or_skip()?);
     if found.has(key) {
-        return Err(FormatFault {
-            at: at as u64,
-            kind: FaultKind::Repeated,
-        });
+        return Err(FormatFault::new(at, FaultKind::Repeated));
     }
     Ok(key)
 }

@@ -129,10 +129,7 @@ fn new_name<'a>(
     let at = cur.at();
     let name = cur.text()?;
     if !names::add(names, name)? {
-        return Err(IndexRefusal::Fault(FormatFault {
-            at: at as u64,
-            kind: FaultKind::Repeated,
-        }));
+        return Err(IndexRefusal::Fault(FormatFault::new(at, FaultKind::Repeated)));
     }
     Ok(name)
 }

@@ -127,10 +127,10 @@ impl Found {
             info,
         } = self;
         let Some(listing) = shards else {
-            return Err(IndexRefusal::Fault(FormatFault {
-                at: cur.at() as u64,
-                kind: FaultKind::Missing,
-            }));
+            return Err(IndexRefusal::Fault(FormatFault::new(
+                cur.at(),
+                FaultKind::Missing,
+            )));
         };
         let info = match info {
             Some(info) => info,
@@ -148,10 +148,7 @@ fn next_key(cur: &mut Cursor<'_>, found: &Found) -> Result<Key, FormatFault>
     let at = cur.at();
     let key = key_of(cur.str_or_skip()?);
     if found.has(key) {
-        return Err(FormatFault {
-            at: at as u64,
-            kind: FaultKind::Repeated,
-        });
+        return Err(FormatFault::new(at, FaultKind::Repeated));
     }
     Ok(key)
 }

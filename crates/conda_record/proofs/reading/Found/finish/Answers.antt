@@ -15,16 +15,16 @@ returns c =
         name = ap (λ (o : Option Span). span_or_none (kept TextAt o)) is.is-0 i;
         version = ap (λ (o : Option Span). span_or_none (kept TextAt o)) is.is-1 i;
         build = ap (λ (o : Option Span). span_or_none (kept TextAt o)) is.is-2 i;
-        build_number = (ap (λ (o : Option ℕ). unwrap_or o 0) (number_is f.build_number ∙ sym c.flatten.ensures) ∙ sym c.unwrap_or.ensures) i;
-        depends = (sym c.listed.ensures) i;
-        constrains = (sym c.listed-2.ensures) i;
-        subdir = (optional_text_is f.subdir ∙ sym c.flatten-2.ensures) i;
-        md5 = (digest_is f.md5 ∙ sym c.flatten-3.ensures) i;
-        sha256 = (digest_is f.sha256 ∙ sym c.flatten-4.ensures) i;
-        size = (number_is f.size ∙ sym c.flatten-5.ensures) i;
-        timestamp = (number_is f.timestamp ∙ sym c.flatten-6.ensures) i;
-        license = (optional_text_is f.license ∙ sym c.flatten-7.ensures) i;
-        noarch = (optional_text_is f.noarch ∙ sym c.flatten-8.ensures) i;
+        build_number = (ap (λ (o : Option ℕ). unwrap_or o 0) (number_is f.build_number f.others.build_number) ∙ sym c.unwrap_or.ensures) i;
+        depends = (sym (c.listed.ensures f.others.depends)) i;
+        constrains = (sym (c.listed-2.ensures f.others.constrains)) i;
+        subdir = optional_text_is f.subdir f.others.subdir i;
+        md5 = digest_is f.md5 f.others.md5 i;
+        sha256 = digest_is f.sha256 f.others.sha256 i;
+        size = number_is f.size f.others.size i;
+        timestamp = number_is f.timestamp f.others.timestamp i;
+        license = optional_text_is f.license f.others.license i;
+        noarch = optional_text_is f.noarch f.others.noarch i;
       },
       c.args.cur.now,
     ))

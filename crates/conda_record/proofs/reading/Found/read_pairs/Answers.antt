@@ -28,10 +28,5 @@ loop-preserved c =
     c.loop.cur c.next_key.new.cur c.read_value.new.cur c.loop-test.true c.in_ok-key.ensures c.in_ok-read_value.ensures)
     ∙ c.loop.invariant
 
-pub returns-in_err-finish : goal.returns-in_err-finish
-returns-in_err-finish c =
-    let p = err_from_is_err_and c.from_residual-in_err-finish.result c.from_residual-in_err-finish.ensures.1 in
-    rw (p.1, p.2) (sym c.loop.invariant ∙ is_done (known_key_from record_keys) (known_value_from record_keys place_from) places_end_from c.args.pairs c.loop.counter (known c.loop.self) c.loop.cur c.loop-test.false ∙ c.in_err-finish.ensures)
-
 pub returns : goal.returns
-returns c = sym c.loop.invariant ∙ is_done (known_key_from record_keys) (known_value_from record_keys place_from) places_end_from c.args.pairs c.loop.counter (known c.loop.self) c.loop.cur c.loop-test.false ∙ c.in_ok-finish.ensures
+returns c = rw (sym c.loop.invariant ∙ is_done (known_key_from record_keys) (known_value_from record_keys place_from) places_end_from c.args.pairs c.loop.counter (known c.loop.self) c.loop.cur c.loop-test.false) c.finish.ensures

@@ -1,0 +1,16 @@
+-- What a command that was read from words asks for.
+use Rattle.std.specs.Prelude.{◌≡◌, true, Unit}
+use Rattle.channel_store.specs.Names.{is_place}
+use Rattle.gateway_tool.specs.declared.words.Command.{Command}
+use Rattle.gateway_tool.specs.declared.words.Command.TheVariants as command
+use Rattle.gateway_tool.specs.Command.{Asked, Show, Index}
+
+-- what the command asks for
+abbrev pub meant : Command → Asked
+meant (command.Show spec) = Show spec
+meant (command.Index place) = Index place.now
+
+-- the place of the command, if it has one, is one
+abbrev pub HasPlace : Command → Type 0
+HasPlace (command.Show spec) = Unit
+HasPlace (command.Index place) = is_place place.now ≡ true
