@@ -253,7 +253,8 @@ impl Found {
     // The record of what was read, which has the required keys.
     #[tactic(auto, unfolding(mp_codec::specs::Maps::known_end_from, crate::specs::Placing::places_end_from))]
     fn finish(&mut self, alloc: Global, cur: &Cursor<'_>) -> Result<RecordSpans, RecordRefusal>
-        ensures { Gives (λ r. (r, cur.now)) fault_of result (places_end_from (known self.old) cur.now) }
+        ensures { Gives (λ r. (r, cur.now)) fault_of result
+            (places_end_from (known self.old) cur.now) }
     {
         let (Some(name), Some(version), Some(build)) = (self.name, self.version, self.build) else {
             return Err(RecordRefusal::Fault(FormatFault::new(cur.at(), FaultKind::Missing)));

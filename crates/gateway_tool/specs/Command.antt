@@ -36,6 +36,7 @@ pub record Outside : Type 0 where
   pub write_faults : ℕ
   pub store_faults : ℕ
 
+-- what is outside, by these six
 abbrev pub outside : Option (List ℕ) → Option (List ℕ) → Option Files → ℕ → ℕ → ℕ → Outside
 outside left written files read_faults write_faults store_faults = record {
   left = left;
