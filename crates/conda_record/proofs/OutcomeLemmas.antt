@@ -1,5 +1,5 @@
 -- What the outcome of reading a record's places says of the record that stands there.
-use Rattle.std.proofs.Common.{◌≡◌, sym, ◌∙◌, ap, Bool, true, false, List, ℕ, true≢false}
+use Rattle.std.proofs.Common.{◌≡◌, sym, ◌∙◌, false, List, ℕ, true≢false}
 use Rattle.std.specs.Prelude.{Result, Ok, Err, IfOk, IfErr, IfSome, MatchResult, is_ok}
 use Rattle.gateway_words.specs.Places.{Position}
 use Rattle.gateway_words.specs.Reading.{Gives}

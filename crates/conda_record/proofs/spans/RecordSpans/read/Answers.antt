@@ -1,8 +1,4 @@
 use Rattle.std.proofs.Common.{sym, ◌∙◌}
-use Rattle.gateway_words.specs.Places.{Position}
-use Rattle.gateway_words.specs.Reading.{Gives}
-use Rattle.conda_record.specs.Reading.{fault_of}
-use Rattle.conda_record.specs.Placing.{places_from}
 use Rattle.conda_record.proofs.OutcomeLemmas.{is_found, is_first, is_only, is_only_refused}
 use Rattle.conda_record.proofs.spans.RecordSpans.read.Goals as goal
 
