@@ -1,10 +1,9 @@
 //! The printed text of records.
-ghost use Rattle.std.specs.Prelude.{◌≡◌, [], ◌∷◌, ◌++◌, IfOk, OnOk};
-ghost use Rattle.gateway_words.specs.Ascii.{space};
+ghost use Rattle.std.specs.Prelude.{◌≡◌, ◌++◌, IfOk, OnOk};
 ghost use Rattle.shard_file.specs.Seen.{row_seen};
-ghost use Rattle.gateway_tool.specs.Texts.{shown_byte, shown, depend_line, record_line, row_text, is_asked, show_text};
+ghost use Rattle.gateway_tool.specs.Texts.{depend_line, row_text, is_asked, show_text};
 
-use itoa::Buffer;
+use answer_text::{put_record_line, put_shown};
 use match_spec::Spec;
 use shard_file::{Shard, ShardRow};
 use std::alloc::{AllocError, Global};
@@ -35,32 +34,12 @@ fn is_asked(row: ShardRow<'_>, spec: &Spec) -> bool
 fn put_row(out: &mut Vec<u8>, row: ShardRow<'_>) -> Result<(), AllocError>
     ensures { OnOk result (out.new.items ≡ out.old.items ++ row_text (row_seen row.entry)) }
 {
-    put_record(out, row)?;
+    put_record_line(out, row.file, row.view)?;
     for i in 0..row.view.depends_len() {
         if let Some(text) = row.view.depend(i) {
             put_depend(out, text)?;
         }
     }
-    Ok(())
-}
-
-fn put_record(out: &mut Vec<u8>, row: ShardRow<'_>) -> Result<(), AllocError>
-    ensures { OnOk result (out.new.items ≡ out.old.items ++ record_line (row_seen row.entry)) }
-{
-    put_word(out, row.file)?;
-    put_word(out, row.view.version())?;
-    put_word(out, row.view.build())?;
-    out.extend_from_slice(Buffer::new().format(row.view.build_number()).as_bytes())?;
-    out.push(b'\n')?;
-    Ok(())
-}
-
-// Appends a text and a blank.
-fn put_word(out: &mut Vec<u8>, text: &str) -> Result<(), AllocError>
-    ensures { OnOk result (out.new.items ≡ out.old.items ++ (shown text.now ++ space ∷ [])) }
-{
-    put_shown(out, text)?;
-    out.push(b' ')?;
     Ok(())
 }
 
@@ -71,20 +50,4 @@ fn put_depend(out: &mut Vec<u8>, text: &str) -> Result<(), AllocError>
     put_shown(out, text)?;
     out.push(b'\n')?;
     Ok(())
-}
-
-// Appends a text, with `?` for each control character.
-fn put_shown(out: &mut Vec<u8>, text: &str) -> Result<(), AllocError>
-    ensures { OnOk result (out.new.items ≡ out.old.items ++ shown text.now) }
-{
-    for b in text.as_bytes() {
-        out.push(shown_byte(*b))?;
-    }
-    Ok(())
-}
-
-fn shown_byte(b: u8) -> u8
-    ensures { result ≡ shown_byte b }
-{
-    if b.is_ascii_control() { b'?' } else { b }
 }
