@@ -30,9 +30,9 @@ pub fn run_files<I: Source, O: Sink, S: Store>(
     // The status, the note and what becomes of what is outside, by what the words ask for.
     ensures answers { FilesAnswers words.now
         (outside (I.left input.old) (O.written out.old) (S.files store.old)
-            (I.faults input.old) (O.faults out.old) (S.faults store.old))
+        (I.faults input.old) (O.faults out.old) (S.faults store.old))
         (outside (I.left input.new) (O.written out.new) (S.files store.new)
-            (I.faults input.new) (O.faults out.new) (S.faults store.new))
+        (I.faults input.new) (O.faults out.new) (S.faults store.new))
         result.0 result.1 }
     // `show` leaves the store, `index` the input, and wrong words all.
     ensures leaves { Leaves (command_of words.now)

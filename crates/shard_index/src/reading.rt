@@ -127,10 +127,7 @@ impl Found {
             info,
         } = self;
         let Some(listing) = shards else {
-            return Err(IndexRefusal::Fault(FormatFault::new(
-                cur.at(),
-                FaultKind::Missing,
-            )));
+            return Err(IndexRefusal::Fault(FormatFault::new(cur.at(), FaultKind::Missing)));
         };
         let info = match info {
             Some(info) => info,
