@@ -21,7 +21,7 @@ pub use limits::{MOST_SERVED_BYTES, served_files_have_their_limit};
 pub use memory::MemStore;
 pub use names::{
     is_channel_name, is_place, is_served_name, is_shard_name, is_store_name, is_subdir_name,
-    subdir_of,
+    served_path, subdir_of,
 };
 pub use store::{Got, Store, StoreRefusal};
 

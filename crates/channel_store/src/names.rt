@@ -1,9 +1,10 @@
 //! The names of channels and subdirs, places, and the names of the files below them.
 
-ghost use Rattle.std.specs.Prelude.{◌≡◌, ◌==◌, ◌||◌};
+ghost use Rattle.std.specs.Prelude.{◌≡◌, ◌==◌, ◌||◌, true, Some, None, IfSome, if◌then◌else◌};
+ghost use Rattle.std.specs.Option.{option_copied};
 ghost use Rattle.std.specs.List.{list_all, before_first, after_first};
 ghost use Rattle.gateway_words.specs.Ascii.{dot};
-ghost use Rattle.channel_store.specs.Names.{is_subdir_byte, is_channel_byte, is_subdir_name, is_channel_name, is_place, channel_of, subdir_of, has_size_of_name, is_shard_digit, are_shard_digits, file_of, is_below_place, is_input_file, is_index_file, is_msgpack_of_digits, is_shard_file, is_shard_name, is_served_name, is_store_name};
+ghost use Rattle.channel_store.specs.Names.{is_subdir_byte, is_channel_byte, is_subdir_name, is_channel_name, is_place, channel_of, subdir_of, has_size_of_name, is_shard_digit, are_shard_digits, file_of, is_below_place, is_input_file, is_index_file, is_msgpack_of_digits, is_shard_file, is_shard_name, is_served_name, served_path, is_store_name};
 
 const MOST_BYTES: usize = 64;
 
@@ -57,6 +58,31 @@ pub fn is_served_name(name: &str) -> bool
     ensures { result ≡ is_served_name name.now }
 {
     is_below_place(name) && is_served_file(file_of(name))
+}
+
+/// The name that is served under a path: what stands behind its first `/`, where that is the store name
+/// of an index or of a shard; None for every other path.
+pub fn served_path(path: &str) -> Option<&str>
+    ensures name { option_copied result ≡ served_path path.now }
+    ensures served { IfSome result (λ name. is_store_name name.now ≡ true) }
+{
+    match path.strip_prefix('/') {
+        Some(name) => name_if_served(name),
+        None => None,
+    }
+}
+
+// The name, if it is served.
+fn name_if_served(name: &str) -> Option<&str>
+    ensures name { option_copied result
+        ≡ (if is_served_name name.now then Some name.now else None) }
+    ensures served { IfSome result (λ name. is_store_name name.now ≡ true) }
+{
+    if is_served_name(name) {
+        Some(name)
+    } else {
+        None
+    }
 }
 
 /// Whether a text is the store name of a shard.

@@ -1,0 +1,3 @@
+pub mod Answer
+pub use Rattle.channel_store.specs.Store
+pub use Rattle.channel_store.specs.Names
