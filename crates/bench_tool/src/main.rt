@@ -2,12 +2,13 @@
 //! its speed can be measured from outside, or prints what it read, so that it can be held against
 //! another program. The scripts in bench/ call it.
 //!
-//! `bench_tool YARDSTICK [WORD [WORD]] < FILE`; the yardsticks are `skip`, `shards`, `bodies`, `names`
-//! and `versions`, each in a module of its own, which says what its words and its input are.
+//! `bench_tool YARDSTICK [WORD [WORD]] < FILE`; the yardsticks are `skip`, `shards`, `bodies`, `flight`,
+//! `names` and `versions`, each in a module of its own, which says what its words and its input are.
 #![tactic(auto)]
 
 mod bodies;
 mod copies;
+mod flights;
 mod names;
 mod shards;
 mod versions;
@@ -33,6 +34,7 @@ fn main(rt: HostRuntime) -> anyhow::Result<()> {
         "skip" => walk::run(&rt, words, &input),
         "shards" => shards::run(&rt, words, &input),
         "bodies" => bodies::run(&rt, words, &input),
+        "flight" => flights::run(&rt, words, &input),
         "names" => names::run(&rt, words, &input),
         "versions" => versions::run(&rt, words, &input),
         other => Err(anyhow!("there is no yardstick {other}")),

@@ -19,7 +19,7 @@ use shard_file::{Shard, ShardRow};
 use std::alloc::Global;
 
 // The first piece of some bytes, and what is behind it.
-fn first_piece(bytes: &[u8]) -> Option<(&[u8], &[u8])> {
+pub(crate) fn first_piece(bytes: &[u8]) -> Option<(&[u8], &[u8])> {
     let (head, rest) = bytes.split_first_chunk::<4>()?;
     rest.split_at_checked(u32::from_be_bytes(*head) as usize)
 }

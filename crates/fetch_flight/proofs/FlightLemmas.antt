@@ -5,17 +5,17 @@ use Rattle.link_io.specs.declared.target.Key.TheVariants as key
 use Rattle.link_io.specs.Origin.{Origin}
 use Rattle.link_io.specs.Conn.{LinkFacts}
 use Rattle.link_io.specs.Parcel.{Packed}
-use Rattle.http_reply.specs.declared.head.Reply.{Reply}
-use Rattle.http_reply.specs.declared.head.Frame.{Frame}
-use Rattle.http_reply.specs.declared.head.Reply.TheVariants as reply
-use Rattle.http_reply.specs.Reply.{IsReply, is_settled, IsDecidedAs, IsUnsettled, framed_bytes}
-use Rattle.http_reply.proofs.ReplyLemmas.{one-reply, ended-settled}
+use Rattle.http_head.specs.declared.reply.Reply.{Reply}
+use Rattle.http_head.specs.declared.reply.Frame.{Frame}
+use Rattle.http_head.specs.declared.reply.Reply.TheVariants as reply
+use Rattle.http_head.specs.Reply.{IsReply, is_settled, IsDecidedAs, IsUnsettled, framed_bytes}
+use Rattle.http_head.proofs.ReplyLemmas.{one-reply, ended-settled}
 use Rattle.fetch_flight.specs.declared.verdicts.Verdict.{Verdict}
 use Rattle.fetch_flight.specs.declared.verdicts.Verdict.TheVariants as verdict
 use Rattle.fetch_flight.specs.declared.causes.Cause.{Cause}
 use Rattle.fetch_flight.specs.Cause.{IsCause, IsBadAt, IsBadIndex}
 use Rattle.fetch_flight.specs.Pins.{IsIndexKey}
-use Rattle.fetch_flight.specs.Advance.{IsDecided, IsUndecided}
+use Rattle.http_reply.specs.Going.{IsDecided, IsUndecided}
 use Rattle.fetch_flight.specs.Verdict.{IsVerdict, IsLandedFrom, key_of, size_of, number_of, comes_from}
 
 -- a decided parcel is decided as the reply that it is

@@ -2,9 +2,9 @@
 use Rattle.std.proofs.Common.{◌≡◌, ℕ, Bool, true, false, List, ◌++◌, Option, None, Some, refl, sym, ◌∙◌, ap, subst}
 use Rattle.std.specs.Prelude.{IfSome, is_some}
 use Rattle.link_io.specs.Conn.{IsFront}
-use Rattle.http_reply.specs.declared.head.Reply.{Reply}
-use Rattle.http_reply.specs.Reply.{HasBody, IsDecidedAs}
-use Rattle.http_reply.proofs.ReplyLemmas.{fronts-have-body}
+use Rattle.http_head.specs.declared.reply.Reply.{Reply}
+use Rattle.http_head.specs.Reply.{HasBody, IsDecidedAs}
+use Rattle.http_head.proofs.ReplyLemmas.{fronts-have-body}
 
 -- what was received, once it is decided, has the body of the whole reply
 module _ (received reply body : List ℕ) (whole_has : HasBody reply true body) where

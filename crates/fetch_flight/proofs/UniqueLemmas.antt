@@ -14,11 +14,11 @@ use Rattle.link_io.specs.declared.target.Key.TheVariants as key
 use Rattle.link_io.specs.declared.address.UrlFault.{UrlFault}
 use Rattle.link_io.specs.declared.target.Target.{Target}
 use Rattle.link_io.specs.Parcel.{Packed}
-use Rattle.http_reply.specs.declared.head.Frame.{Frame}
-use Rattle.http_reply.specs.declared.head.Reply.{Reply}
-use Rattle.http_reply.specs.declared.head.Reply.TheVariants as reply
-use Rattle.http_reply.specs.Reply.{IsReply, IsDecidedAs, HasBody, framed_bytes}
-use Rattle.http_reply.proofs.ReplyLemmas.{one-reply}
+use Rattle.http_head.specs.declared.reply.Frame.{Frame}
+use Rattle.http_head.specs.declared.reply.Reply.{Reply}
+use Rattle.http_head.specs.declared.reply.Reply.TheVariants as reply
+use Rattle.http_head.specs.Reply.{IsReply, IsDecidedAs, HasBody, framed_bytes}
+use Rattle.http_head.proofs.ReplyLemmas.{one-reply}
 use Rattle.channel_url.specs.Addresses.{shards_base}
 use Rattle.fetch_flight.specs.declared.causes.Cause.{Cause}
 use Rattle.fetch_flight.specs.declared.causes.Cause.TheVariants as cause

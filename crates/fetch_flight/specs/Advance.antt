@@ -1,5 +1,5 @@
 -- One call on the connection of a flight.
-use Rattle.std.specs.Prelude.{◌≡◌, ◌⊎◌, ℕ, ◌+◌, ◌≤◌, ◌<◌, List, [], ◌∷◌, ◌++◌, length, take, drop, Bool, true, false, Option, Some, None, if◌then◌else◌, nat_lt}
+use Rattle.std.specs.Prelude.{⊤, ◌≡◌, ◌⊎◌, ℕ, ◌+◌, ◌≤◌, ◌<◌, List, [], ◌∷◌, ◌++◌, length, take, drop, Bool, true, false, Option, Some, None, if◌then◌else◌, nat_lt}
 use Rattle.gateway_words.specs.Causes.{Rose}
 use Rattle.link_io.specs.declared.conn.Sent.{Sent}
 use Rattle.link_io.specs.declared.conn.Sent.TheVariants as sending
@@ -7,11 +7,10 @@ use Rattle.link_io.specs.declared.conn.Step.{Step}
 use Rattle.link_io.specs.declared.conn.Step.TheVariants as stepping
 use Rattle.link_io.specs.Conn.{LinkFacts, IsSameLink, Sends, Steps}
 use Rattle.link_io.specs.Parcel.{Packed, after_send, after_step, Stepped}
-use Rattle.http_reply.specs.declared.head.Reply.{Reply}
-use Rattle.http_reply.specs.Reply.{IsUnsettled, IsDecidedAs}
 use Rattle.fetch_flight.specs.declared.flying.Progress.{Progress}
 use Rattle.fetch_flight.specs.declared.flying.Progress.TheVariants as progress
 use Rattle.http_reply.specs.Request.{request_bytes}
+use Rattle.http_reply.specs.Going.{IsUndecided, IsDecided}
 
 -- the most bytes of one step
 abbrev pub step_room : ℕ
@@ -28,15 +27,6 @@ pub record Asks {L : Type 0} (facts : L → LinkFacts) (old new : Packed L) (ans
 pub record Listens {L : Type 0} (facts : L → LinkFacts) (old new : Packed L) (answer : Step) : Type 0 where
   pub asked : length (request_bytes old.target.url) ≤ old.sent
   pub stepped : Stepped facts step_room old new answer
-
--- nothing is decided of a parcel
-abbrev pub IsUndecided : {L : Type 0} → Packed L → Type 0
-IsUndecided p = IsUnsettled p.received p.ended
-
--- a parcel is decided, as some reply
-pub record IsDecided {L : Type 0} (p : Packed L) : Type 0 where
-  pub reply : Reply
-  pub decided : IsDecidedAs p.received p.ended reply
 
 -- what came of sending a part of the request
 abbrev pub progress_of : Sent → Progress
@@ -55,3 +45,31 @@ Advances facts old new progress.Ready =
 Advances facts old new progress.Failed =
     Asks facts old new sending.Failed ⊎ Listens facts old new stepping.Failed
 Advances facts old new progress.Memory = new ≡ old
+
+-- a fact that holds behind a call that neither decided the parcel nor failed
+abbrev pub WhereGoing : Progress → Type 0 → Type 0
+WhereGoing (progress.Took n) fact = fact
+WhereGoing progress.NotYet fact = fact
+WhereGoing progress.Ready fact = ⊤
+WhereGoing progress.Failed fact = ⊤
+WhereGoing progress.Memory fact = ⊤
+
+-- a fact that holds behind one that did
+abbrev pub WhereDone : Progress → Type 0 → Type 0
+WhereDone progress.Ready fact = fact
+WhereDone progress.Failed fact = fact
+WhereDone (progress.Took n) fact = ⊤
+WhereDone progress.NotYet fact = ⊤
+WhereDone progress.Memory fact = ⊤
+
+-- the bytes that went over a parcel, both ways
+abbrev pub bytes_moved : {L : Type 0} → Packed L → ℕ
+bytes_moved p = p.sent + length p.received
+
+-- a call that took n bytes moved so many
+abbrev pub Moves : {L : Type 0} → Packed L → Packed L → Progress → Type 0
+Moves old new (progress.Took n) = (1 ≤ n) × (bytes_moved new ≡ bytes_moved old + n)
+Moves old new progress.NotYet = ⊤
+Moves old new progress.Ready = ⊤
+Moves old new progress.Failed = ⊤
+Moves old new progress.Memory = ⊤

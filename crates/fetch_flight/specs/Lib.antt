@@ -5,6 +5,7 @@ pub mod Pins
 pub mod Pin
 pub mod Verdict
 pub use Rattle.http_reply.specs.Request
-pub use Rattle.http_reply.specs.Reply
+pub use Rattle.http_reply.specs.Going
+pub use Rattle.http_head.specs.Reply
 pub use Rattle.link_io.specs.Parcel
 pub use Rattle.channel_url.specs.Addresses

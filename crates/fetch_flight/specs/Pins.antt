@@ -5,7 +5,7 @@ use Rattle.shard_index.specs.Index.{IndexOf}
 use Rattle.link_io.specs.declared.target.Key.{Key}
 use Rattle.link_io.specs.declared.target.Key.TheVariants as key
 use Rattle.link_io.specs.Target.{IsPlain}
-use Rattle.http_reply.specs.Reply.{HasBody}
+use Rattle.http_head.specs.Reply.{HasBody}
 use Rattle.channel_url.specs.Addresses.{shards_base}
 use Rattle.fetch_flight.specs.Made.{Pinned, Held}
 

@@ -10,7 +10,7 @@ use Rattle.link_io.specs.declared.target.Target.{Target}
 use Rattle.link_io.specs.Origin.{Origin}
 use Rattle.link_io.specs.Conn.{LinkFacts}
 use Rattle.link_io.specs.Parcel.{Packed, IsParcel}
-use Rattle.http_reply.specs.Reply.{IsDecidedAs, HasBody}
+use Rattle.http_head.specs.Reply.{IsDecidedAs, HasBody}
 use Rattle.channel_url.specs.Addresses.{shards_base}
 use Rattle.fetch_flight.specs.declared.verdicts.Verdict.{Verdict}
 use Rattle.fetch_flight.specs.declared.verdicts.Verdict.TheVariants as verdict

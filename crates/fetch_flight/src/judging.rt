@@ -4,15 +4,14 @@ ghost use Rattle.std.specs.Prelude.{◌≡◌, ◌≢◌, ◌⊎◌, ◌≤◌, 
 ghost use Rattle.digest_gate.specs.Digest.{IsDigest, digest_of};
 ghost use Rattle.link_io.specs.declared.target.Key.TheVariants as key;
 ghost use Rattle.link_io.specs.Parcel.{IsParcel};
-ghost use Rattle.http_reply.specs.Reply.{IsDecidedAs, HasBody, framed_bytes};
-ghost use Rattle.fetch_flight.specs.Advance.{IsDecided};
+ghost use Rattle.http_head.specs.Reply.{IsDecidedAs, HasBody, framed_bytes};
+ghost use Rattle.http_reply.specs.Going.{IsDecided};
 ghost use Rattle.fetch_flight.specs.Cause.{IsCause, cause_of_reply, IsReplyCause};
 ghost use Rattle.fetch_flight.specs.Pins.{IsIndexKey};
 ghost use Rattle.link_io.specs.Target.{IsPlain};
 ghost use Rattle.fetch_flight.specs.Verdict.{IsVerdict, IsLandedFrom};
 
 use crate::causes::{Cause, Malformed};
-use crate::flying::reply_of;
 use crate::verdicts::{HeldShard, PinnedIndex, Verdict, Wreck};
 use channel_url::shards_base;
 use digest_gate::{Body, Digest, Mismatch};
@@ -68,7 +67,7 @@ fn decided_reply<L: Conn>(parcel: &Parcel<L>) -> Reply
     requires { IsDecided parcel.now }
     ensures { IsDecidedAs parcel.now.received parcel.now.ended result }
 {
-    reply_of(parcel)
+    parcel.reply()
 }
 
 // The body of a decided parcel, or the cause that its reply is.

@@ -2,8 +2,8 @@
 
 ghost use Rattle.std.specs.Prelude.{◌≡◌, ℕ, List, Some, true};
 ghost use Rattle.link_io.specs.Origin.{Replies, reply_at, plain};
-ghost use Rattle.http_reply.specs.Reply.{HasBody};
-ghost use Rattle.fetch_flight.specs.Advance.{IsDecided};
+ghost use Rattle.http_head.specs.Reply.{HasBody};
+ghost use Rattle.http_reply.specs.Going.{IsDecided};
 ghost use Rattle.fetch_flight.specs.Verdict.{OneVerdict};
 
 use link_io::{Conn, Parcel};

@@ -17,3 +17,6 @@ pub use flying::{Progress, STEP_ROOM, advance};
 pub use judging::judge;
 pub use laws::{a_parcel_comes_to_one_verdict, a_served_parcel_has_the_body};
 pub use verdicts::{HeldShard, PinnedIndex, Verdict, Wreck};
+
+#[cfg(test)]
+mod tests;

@@ -5,7 +5,7 @@ ghost use Rattle.link_io.specs.Origin.{Origin};
 ghost use Rattle.fetch_flight.specs.Verdict.{IsVerdict, key_of, size_of, number_of, comes_from};
 ghost use Rattle.fetch_flight.specs.Pin.{IsPinOver, IsWreckOver};
 ghost use Rattle.fetch_flight.specs.Pins.{IsPin, IsHeld};
-ghost use Rattle.fetch_flight.specs.Advance.{IsDecided};
+ghost use Rattle.http_reply.specs.Going.{IsDecided};
 
 use crate::causes::Cause;
 use link_io::{Conn, HttpUrl, Key, Landed, Parcel, Target};

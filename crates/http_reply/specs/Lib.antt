@@ -1,9 +1,8 @@
 pub mod Request
-pub mod Framing
-pub mod Reply
-pub mod Law
-pub mod Served
-pub use Rattle.httparse.specs.Grammar
-pub use Rattle.httparse.specs.Spans
+pub mod Going
+pub use Rattle.http_head.specs.Reply
+pub use Rattle.http_head.specs.Law
+pub use Rattle.http_head.specs.Served
 pub use Rattle.gateway_words.specs.Ascii
 pub use Rattle.link_io.specs.Address
+pub use Rattle.link_io.specs.Parcel

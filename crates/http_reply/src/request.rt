@@ -1,6 +1,6 @@
 //! The text of a request.
 
-ghost use Rattle.std.specs.Prelude.{◌≡◌, IfOk};
+ghost use Rattle.std.specs.Prelude.{◌≡◌, IfOk, length};
 ghost use Rattle.http_reply.specs.Request.{request_bytes};
 
 use link_io::{HttpUrl, Target};
@@ -14,16 +14,35 @@ pub fn request_text(alloc: Global, target: &Target) -> Result<Vec<u8>, AllocErro
     request_for(alloc, &target.url)
 }
 
+/// How many bytes the request for a target has: at most 2,098. It takes no memory.
+pub fn request_size(target: &Target) -> usize
+    ensures { result ≡ length (request_bytes target.now.url) }
+{
+    size_for(&target.url)
+}
+
+const GET: &[u8] = b"GET ";
+const VERSION_AND_HOST: &[u8] = b" HTTP/1.0\r\nHost: ";
+const ACCEPT_AND_CLOSE: &[u8] = b"\r\nAccept: */*\r\nConnection: close\r\n\r\n";
+
 // The request for an address.
 #[tactic(auto, unfolding(crate::specs::Request::request_bytes))]
 fn request_for(alloc: Global, url: &HttpUrl) -> Result<Vec<u8>, AllocError>
     ensures { IfOk result (λ text. text.items ≡ request_bytes url.now) }
 {
     let mut text = Vec::new(alloc);
-    text.extend_from_slice(b"GET ")?;
+    text.extend_from_slice(GET)?;
     text.extend_from_slice(url.path().as_bytes())?;
-    text.extend_from_slice(b" HTTP/1.0\r\nHost: ")?;
+    text.extend_from_slice(VERSION_AND_HOST)?;
     text.extend_from_slice(url.authority().as_bytes())?;
-    text.extend_from_slice(b"\r\nAccept: */*\r\nConnection: close\r\n\r\n")?;
+    text.extend_from_slice(ACCEPT_AND_CLOSE)?;
     Ok(text)
+}
+
+// How many bytes that has.
+fn size_for(url: &HttpUrl) -> usize
+    ensures { result ≡ length (request_bytes url.now) }
+{
+    let fixed = GET.len() + VERSION_AND_HOST.len() + ACCEPT_AND_CLOSE.len();
+    fixed + url.path().len() + url.authority().len()
 }

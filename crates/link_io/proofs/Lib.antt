@@ -3,3 +3,5 @@ pub mod ToldLemmas
 mod ReadingLemmas
 pub mod GivingLemmas
 mod AddressLemmas
+mod RoomLemmas
+mod ParcelLemmas

@@ -12,3 +12,5 @@ pub mod Standard
 pub mod Transfer
 pub use Rattle.gateway_words.specs.Causes
 pub use Rattle.digest_gate.specs.Digest
+pub use Rattle.http_head.specs.Reply
+pub use Rattle.http_head.specs.Head

@@ -44,6 +44,13 @@ after_step p link piece stepping.End = record p { link = link; ended = true }
 after_step p link piece stepping.NotYet = record p { link = link }
 after_step p link piece stepping.Failed = record p { link = link; broken = true }
 
+-- how many bytes a step gave
+abbrev pub count_in : Step → ℕ
+count_in (stepping.Got n) = n
+count_in stepping.End = 0
+count_in stepping.NotYet = 0
+count_in stepping.Failed = 0
+
 -- a step into a room behind some bytes: what it did to the link, and what stands behind them now
 abbrev pub Behind : (old new : LinkFacts) (before now : List ℕ) → ℕ → Step → Type 0
 Behind old new before now room (stepping.Got n) = (piece : List ℕ) × (now ≡ before ++ piece) × (length piece ≡ n) × (n ≤ room) × Steps old new piece (stepping.Got n)
@@ -57,6 +64,7 @@ pub record StepsBehind (room : ℕ) (old new : LinkFacts) (before now : List ℕ
 -- what a step of a parcel with so much room says
 pub record Stepped {L : Type 0} (facts : L → LinkFacts) (room : ℕ) (old new : Packed L) (answer : Step) : Type 0 where
   pub piece : List ℕ
+  pub count : length piece ≡ count_in answer
   pub within : length piece ≤ room
   pub same : IsSameLink (facts old.link) (facts new.link)
   pub steps : Steps (facts old.link) (facts new.link) piece answer

@@ -18,6 +18,7 @@ mod landed;
 mod line;
 mod memory;
 mod parcel;
+mod received;
 mod script;
 mod sink;
 mod source;

@@ -171,3 +171,43 @@ fn connecting<R: Net>(net: &R, address: SocketAddr) -> io::Result<TcpStream> {
     stream.set_write_timeout(Some(wait))?;
     Ok(stream)
 }
+
+#[cfg(test)]
+mod tests {
+    use super::*;
+    use std::net::{Ipv4Addr, TcpListener};
+    use std::test::Fail;
+
+    // A line to a listener, over which a byte went.
+    fn line_to(rt: &HostRuntime, listener: &TcpListener) -> Result<Line, Fail> {
+        let place = format!(in rt.alloc(); "127.0.0.1:{}", listener.local_addr()?.port())?;
+        let mut line = Line::new(rt.alloc(), place.as_str())?;
+        for _ in 0..100u64 {
+            if line.write(rt, b"a")?.is_some() {
+                return Ok(line);
+            }
+        }
+        Err("no byte was taken".into())
+    }
+
+    // After how many silent reads the line fails.
+    fn patience(line: &mut Line) -> Result<u64, Fail> {
+        let mut piece = [0; 10];
+        for count in 0..10u64 {
+            if line.read(&mut piece).is_err() {
+                return Ok(count);
+            }
+        }
+        Err("it waits on and on".into())
+    }
+
+    // The peer says nothing. All but four of the silent reads that are allowed are taken as made.
+    #[test]
+    fn silence_has_an_end(rt: HostRuntime) -> Result<(), Fail> {
+        let listener = TcpListener::bind(&rt, SocketAddr::from((Ipv4Addr::LOCALHOST, 0)))?;
+        let mut line = line_to(&rt, &listener)?;
+        line.quiet = MOST_QUIET - 4;
+        assert_eq!(rt; patience(&mut line)?, 3);
+        Ok(())
+    }
+}

@@ -1,11 +1,14 @@
 //! A connection with what came over it.
-ghost use Rattle.std.specs.Prelude.{◌≡◌, ◌<◌, ◌≤◌, ◌+◌, ◌++◌, [], ℕ, List, length, take, false, IfOk, OnErr, MatchResult, vec_len};
+ghost use Rattle.std.specs.Prelude.{◌≡◌, ◌<◌, ◌≤◌, ℕ, List, length, false, IfOk, OnErr};
 ghost use Rattle.link_io.specs.Origin.{Origin};
 ghost use Rattle.link_io.specs.Conn.{IsSameLink, Sends, Steps, IsFresh};
-ghost use Rattle.link_io.specs.Parcel.{Packed, IsParcel, new_parcel, after_send, after_step, Stepped, StepsBehind};
+ghost use Rattle.http_head.specs.Reply.{IsReply};
+ghost use Rattle.link_io.specs.Parcel.{Packed, IsParcel, new_parcel, after_send, after_step, Stepped};
 
 use crate::conn::{Conn, Sent, Step};
+use crate::received::Received;
 use crate::target::Target;
+use http_head::Reply;
 use std::alloc::{AllocError, Global};
 use std::marker::Model;
 
@@ -16,19 +19,20 @@ pub struct Parcel<L: Conn> {
     target: Target,
     link: L,
     sent: usize,
-    received: Vec<u8>,
+    received: Received,
     ended: bool,
     broken: bool,
 }
 
 impl<L: Conn> Model for Parcel<L> {
-    ghost use Rattle.link_io.specs.Parcel.{Packed, IsParcel};
+    ghost use Rattle.http_head.specs.Reply.{IsReply};
+ghost use Rattle.link_io.specs.Parcel.{Packed, IsParcel};
 
     ghost Value = { Packed L };
 
-    ghost view = { λ p. record { target = p.target; link = p.link; sent = p.sent; received = p.received.items; ended = p.ended; broken = p.broken } };
+    ghost view = { λ p. record { target = p.target; link = p.link; sent = p.sent; received = p.received; ended = p.ended; broken = p.broken } };
 
-    ghost invariant = { λ p. IsParcel L.facts (record { target = p.target; link = p.link; sent = p.sent; received = p.received.items; ended = p.ended; broken = p.broken }) };
+    ghost invariant = { λ p. IsParcel L.facts (record { target = p.target; link = p.link; sent = p.sent; received = p.received; ended = p.ended; broken = p.broken }) };
 }
 
 impl<L: Conn> Parcel<L> {
@@ -41,7 +45,7 @@ impl<L: Conn> Parcel<L> {
             target,
             link,
             sent: 0,
-            received: Vec::new(alloc),
+            received: Received::new(alloc),
             ended: false,
             broken: false,
         }
@@ -68,7 +72,15 @@ impl<L: Conn> Parcel<L> {
         ensures value { result.now ≡ self.now.received }
         ensures known { IsParcel L.facts self.now }
     {
-        &self.received
+        self.received.bytes()
+    }
+
+    /// What the bytes that came are as a reply. It looks at none of them: what is known of their head
+    /// is kept.
+    pub fn reply(&self) -> Reply
+        ensures { IsReply self.now.received self.now.ended result }
+    {
+        self.received.reply(self.ended)
     }
 
     /// How many bytes were sent.
@@ -112,7 +124,8 @@ impl<L: Conn> Parcel<L> {
         answer
     }
 
-    /// One call of `step` on the connection, with room for so many bytes.
+    /// One call of `step` on the connection, with room for so many bytes more. No byte is copied, and
+    /// none that came before is looked at, but those of a head that isn't whole yet: at most 65,536.
     ///
     /// `AllocError` where memory for the room isn't there: no call was made, and the parcel is as
     /// before.
@@ -123,42 +136,13 @@ impl<L: Conn> Parcel<L> {
         ensures from { (o : Origin) → L.from self.old.link o → L.from self.new.link o }
         ensures err { OnErr result (self.new ≡ self.old) }
     {
-        let answer = step_behind(&mut self.link, &mut self.received, room)?;
+        let answer = self.received.step(&mut self.link, room)?;
         match answer {
-            Step::Got(_) | Step::NotYet => {}
+            Step::Got(_) => {}
+            Step::NotYet => {}
             Step::End => self.ended = true,
             Step::Failed => self.broken = true,
         }
         Ok(answer)
     }
-}
-
-// One step of a connection, behind the bytes that came before.
-fn step_behind<L: Conn>(
-    link: &mut L,
-    received: &mut Vec<u8>,
-    room: usize,
-) -> Result<Step, AllocError>
-    requires some { 0 < room }
-    ensures ok { IfOk result
-        (StepsBehind room (L.facts link.old) (L.facts link.new)
-        received.old.items received.new.items) }
-    ensures from { (o : Origin) → L.from link.old o → L.from link.new o }
-    ensures err { OnErr result ((link.new ≡ link.old) × (received.new.items ≡ received.old.items)) }
-{
-    let mut buffer = zeros(*received.allocator(), room)?;
-    received.reserve(room)?;
-    let buf = buffer.as_mut_slice();
-    let answer = link.step(buf);
-    if let Step::Got(count) = answer {
-        received.extend_from_slice(&buf[..count]).unwrap();
-    }
-    Ok(answer)
-}
-
-// A buffer for a step; what stands in it doesn't matter.
-fn zeros(alloc: Global, size: usize) -> Result<Vec<u8>, AllocError>
-    ensures { IfOk result (λ zeros. vec_len zeros ≡ size) }
-{
-    vec![in alloc; 0; size]
 }

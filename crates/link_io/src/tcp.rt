@@ -115,7 +115,6 @@ impl<R: Net + Clock + Drop> Conn for TcpConn<R> {
 mod tests {
     use super::*;
     use crate::address::HttpUrl;
-    use crate::parcel::Parcel;
     use crate::target::Key;
     use digest_gate::Digest;
     use std::io::{Read, Write};
@@ -128,47 +127,69 @@ mod tests {
         Ok(TcpListener::bind(rt, SocketAddr::from((Ipv4Addr::LOCALHOST, 0)))?)
     }
 
-    // A parcel to this host at the port of a listener.
-    fn parcel(
-        rt: &HostRuntime,
-        host: &str,
-        port: u16,
-    ) -> Result<Parcel<TcpConn<HostRuntime>>, Fail> {
-        let alloc = rt.alloc();
-        let text = format!(in alloc; "http://{host}:{port}/")?;
-        let target = Target {
+    fn target(alloc: Global, text: &str) -> Result<Target, Fail> {
+        Ok(Target {
             key: Key::Shard(Digest([0; 32])),
-            url: HttpUrl::read(alloc, text.as_str())
-                .ok()
-                .ok_or("it is an address")?,
-        };
-        let mut dial = TcpDial::new(alloc, *rt);
-        let link = dial.dial(alloc, &target)?;
-        Ok(Parcel::new(alloc, target, link))
+            url: HttpUrl::read(alloc, text).ok().ok_or("it is an address")?,
+        })
+    }
+
+    // A connection to a host at a port.
+    fn link(rt: &HostRuntime, host: &str, port: u16) -> Result<TcpConn<HostRuntime>, Fail> {
+        let text = format!(in rt.alloc(); "http://{host}:{port}/")?;
+        let target = target(rt.alloc(), text.as_str())?;
+        Ok(TcpDial::new(rt.alloc(), *rt).dial(rt.alloc(), &target)?)
     }
 
     // Whether the whole request was taken, by calls that wait or take all of it.
-    fn is_sent(parcel: &mut Parcel<TcpConn<HostRuntime>>) -> bool {
+    fn is_sent(link: &mut TcpConn<HostRuntime>) -> bool {
         for _ in 0..100u64 {
-            if parcel.broken() {
-                return false;
-            }
-            if let Sent::Took(count) = parcel.send(REQUEST) {
-                return count == REQUEST.len();
+            match link.send(REQUEST) {
+                Sent::Took(count) => return count == REQUEST.len(),
+                Sent::NotYet => {}
+                Sent::Failed => return false,
             }
         }
         false
     }
 
-    // Takes what comes until the end or a failure.
-    fn listen(parcel: &mut Parcel<TcpConn<HostRuntime>>) -> Result<(), Fail> {
-        for _ in 0..2_000u64 {
-            if parcel.broken() || parcel.ended() {
-                return Ok(());
-            }
-            let _step = parcel.step(100)?;
+    // One step, and what it gave behind what came before.
+    fn hear(link: &mut TcpConn<HostRuntime>, came: &mut Vec<u8>) -> Result<Step, Fail> {
+        let mut piece = [0; 100];
+        let answer = link.step(&mut piece);
+        if let Step::Got(count) = answer {
+            came.extend_from_slice(&piece[..count])?;
         }
-        Ok(())
+        Ok(answer)
+    }
+
+    // Takes what comes until so many bytes are there; whether they came.
+    fn hear_some(
+        link: &mut TcpConn<HostRuntime>,
+        came: &mut Vec<u8>,
+        size: usize,
+    ) -> Result<bool, Fail> {
+        for _ in 0..10_000u64 {
+            if came.len() >= size {
+                return Ok(true);
+            }
+            match hear(link, came)? {
+                Step::Got(_) | Step::NotYet => {}
+                Step::End | Step::Failed => return Ok(false),
+            }
+        }
+        Ok(false)
+    }
+
+    // The answer behind all bytes.
+    fn last_answer(link: &mut TcpConn<HostRuntime>, came: &mut Vec<u8>) -> Result<Step, Fail> {
+        for _ in 0..10_000u64 {
+            match hear(link, came)? {
+                Step::Got(_) | Step::NotYet => {}
+                last => return Ok(last),
+            }
+        }
+        Ok(Step::NotYet)
     }
 
     // The peer of a connection, which has read the request.
@@ -182,39 +203,101 @@ mod tests {
         Ok(peer)
     }
 
-    #[test]
-    fn a_reply_comes_as_it_is_written(rt: HostRuntime) -> Result<(), Fail> {
-        let listener = listener(&rt)?;
-        let port = listener.local_addr()?.port();
-        let mut parcel = parcel(&rt, "127.0.0.1", port)?;
-        assert!(rt; is_sent(&mut parcel));
+    // Whether pieces come as a peer at this host writes them, and then an end.
+    fn comes_in_pieces(
+        rt: &HostRuntime,
+        host: &str,
+        piece: &[u8],
+        times: u64,
+    ) -> Result<bool, Fail> {
+        let listener = listener(rt)?;
+        let mut link = link(rt, host, listener.local_addr()?.port())?;
+        if !is_sent(&mut link) {
+            return Ok(false);
+        }
         let mut peer = accepted(&listener)?;
-        for byte in [b"a", b"b", b"c"] {
-            peer.write_all(byte)?;
+        let mut came = Vec::new(rt.alloc());
+        let mut wanted = Vec::new(rt.alloc());
+        for _ in 0..times {
+            peer.write_all(piece)?;
+            wanted.extend_from_slice(piece)?;
+            hear_some(&mut link, &mut came, wanted.len())?;
         }
         drop(peer);
-        listen(&mut parcel)?;
-        assert!(rt; parcel.ended());
-        assert_eq!(rt; parcel.received(), b"abc".as_slice());
+        let last = last_answer(&mut link, &mut came)?;
+        Ok(last == Step::End && came.as_slice() == wanted.as_slice())
+    }
+
+    #[test]
+    fn a_reply_comes_byte_by_byte(rt: HostRuntime) -> Result<(), Fail> {
+        assert!(rt; comes_in_pieces(&rt, "127.0.0.1", b"a", 100)?);
+        Ok(())
+    }
+
+    // So many bytes.
+    fn letters(alloc: Global, size: usize) -> Result<Vec<u8>, Fail> {
+        let mut letters = Vec::new(alloc);
+        letters.resize(size, b'x')?;
+        Ok(letters)
+    }
+
+    const PIECE: usize = 65_536;
+
+    #[test]
+    fn a_reply_comes_in_pieces_of_64_kib(rt: HostRuntime) -> Result<(), Fail> {
+        let piece = letters(rt.alloc(), PIECE)?;
+        assert!(rt; comes_in_pieces(&rt, "127.0.0.1", &piece, 4)?);
+        Ok(())
+    }
+
+    // Where the name has an address of each version, that of version 6 refuses.
+    #[test]
+    fn each_address_of_a_name_is_tried(rt: HostRuntime) -> Result<(), Fail> {
+        assert!(rt; comes_in_pieces(&rt, "localhost", b"abc", 1)?);
+        Ok(())
+    }
+
+    // Whether a connection fails whose peer leaves behind some bytes, the request unread.
+    fn fails_behind(rt: &HostRuntime, bytes: &[u8]) -> Result<bool, Fail> {
+        let listener = listener(rt)?;
+        let mut link = link(rt, "127.0.0.1", listener.local_addr()?.port())?;
+        if !is_sent(&mut link) {
+            return Ok(false);
+        }
+        let (mut peer, _) = listener.accept()?;
+        peer.write_all(bytes)?;
+        let mut came = Vec::new(rt.alloc());
+        hear_some(&mut link, &mut came, bytes.len())?;
+        drop(peer);
+        let last = last_answer(&mut link, &mut came)?;
+        Ok(last == Step::Failed && came.as_slice() == bytes)
+    }
+
+    // Before a reply, within its head, and within its body.
+    const FRONTS: [&[u8]; 3] = [
+        b"",
+        b"HTTP/1.1 200 O",
+        b"HTTP/1.1 200 OK\r\nContent-Length: 9\r\n\r\n\x81\xa6sh",
+    ];
+
+    #[test]
+    fn a_reset_is_a_failure(rt: HostRuntime) -> Result<(), Fail> {
+        for front in FRONTS {
+            assert!(rt; fails_behind(&rt, front)?, "{front:?}");
+        }
         Ok(())
     }
 
     #[test]
     fn a_port_where_nobody_listens_fails(rt: HostRuntime) -> Result<(), Fail> {
-        let listener = listener(&rt)?;
-        let port = listener.local_addr()?.port();
-        drop(listener);
-        let mut parcel = parcel(&rt, "127.0.0.1", port)?;
-        assert!(rt; !is_sent(&mut parcel));
-        assert!(rt; parcel.broken());
+        let port = listener(&rt)?.local_addr()?.port();
+        assert!(rt; !is_sent(&mut link(&rt, "127.0.0.1", port)?));
         Ok(())
     }
 
     #[test]
     fn a_name_that_does_not_resolve_fails(rt: HostRuntime) -> Result<(), Fail> {
-        let mut parcel = parcel(&rt, "no.such.name.invalid", 80)?;
-        assert!(rt; !is_sent(&mut parcel));
-        assert!(rt; parcel.broken());
+        assert!(rt; !is_sent(&mut link(&rt, "no.such.name.invalid", 80)?));
         Ok(())
     }
 }

@@ -24,38 +24,61 @@ fn sink(alloc: Global, room: usize, piece: usize, fails: &[u64]) -> Result<MemSi
     Ok(MemSink::new(alloc, room, piece, fails.to_vec(alloc)?)?)
 }
 
-#[test]
-fn reads_up_to_the_limit(rt: HostRuntime) -> Result<(), Fail> {
-    let alloc = rt.alloc();
-    for (piece, limit) in [(1, 8), (3, 8), (8, 8), (9, 9), (65_536, usize::MAX)] {
-        let piece: usize = piece;
-        let piece = piece.max(1);
-        let bytes = read_to_end(alloc, &mut source(alloc, piece, &[])?, limit)
-            .ok()
-            .ok_or("no bytes")?;
-        assert_eq!(rt; bytes.as_slice(), TEXT, "by {piece}");
-    }
-    Ok(())
+// What reading comes to: all of the text, other bytes, or a refusal.
+#[derive(Clone, Copy, Debug, PartialEq, Eq)]
+enum Came {
+    Text,
+    Other,
+    Refused(ReadRefusal),
 }
 
+fn came(read: Result<Vec<u8>, ReadRefusal>) -> Came {
+    match read {
+        Ok(bytes) => {
+            if bytes.as_slice() == TEXT {
+                Came::Text
+            } else {
+                Came::Other
+            }
+        }
+        Err(refusal) => Came::Refused(refusal),
+    }
+}
+
+fn came_by(alloc: Global, piece: usize, fails: &[u64], limit: usize) -> Result<Came, Fail> {
+    let mut source = source(alloc, piece.max(1), fails)?;
+    Ok(came(read_to_end(alloc, &mut source, limit)))
+}
+
+const TOO_MUCH: Came = Came::Refused(ReadRefusal::TooMuch);
+
+// The most bytes of one read, the limit, and what reading comes to.
+const LIMITS: [(usize, usize, Came); 9] = [
+    (1, 8, Came::Text),
+    (3, 8, Came::Text),
+    (8, 8, Came::Text),
+    (9, 9, Came::Text),
+    (65_536, usize::MAX, Came::Text),
+    // One byte more than the limit.
+    (1, 7, TOO_MUCH),
+    (3, 7, TOO_MUCH),
+    (8, 0, TOO_MUCH),
+    (9, 7, TOO_MUCH),
+];
+
 #[test]
-fn refuses_one_byte_more(rt: HostRuntime) -> Result<(), Fail> {
-    let alloc = rt.alloc();
-    for (piece, limit) in [(1, 7), (3, 7), (8, 0), (9, 7)] {
-        let piece: usize = piece;
-        let piece = piece.max(1);
-        let refusal = read_to_end(alloc, &mut source(alloc, piece, &[])?, limit).err();
-        assert_eq!(rt; refusal, Some(ReadRefusal::TooMuch), "by {piece}");
+fn reads_up_to_the_limit(rt: HostRuntime) -> Result<(), Fail> {
+    for (piece, limit, wanted) in LIMITS {
+        assert!(rt; came_by(rt.alloc(), piece, &[], limit)? == wanted, "{piece} {limit}");
     }
     Ok(())
 }
 
 #[test]
 fn a_read_that_fails_is_reported(rt: HostRuntime) -> Result<(), Fail> {
-    let alloc = rt.alloc();
-    for number in 0..4 {
-        let refusal = read_to_end(alloc, &mut source(alloc, 3, &[number])?, 100).err();
-        assert_eq!(rt; refusal, Some(ReadRefusal::Failed), "read {number}");
+    for number in 0..4u64 {
+        let came = came_by(rt.alloc(), 3, &[number], 100)?;
+        assert!(rt; came == Came::Refused(ReadRefusal::Failed), "read {number}");
     }
     Ok(())
 }
@@ -77,44 +100,53 @@ impl Source for Endless {
     }
 }
 
+// Whether an input without end is refused behind one byte more than the limit.
+fn is_left_at(alloc: Global, limit: usize) -> bool {
+    let mut endless = Endless { given: 0 };
+    let came = came(read_to_end(alloc, &mut endless, limit));
+    came == TOO_MUCH && endless.given.checked_sub(limit) == Some(1)
+}
+
+const ENDLESS: [usize; 5] = [0, 5, 65_535, 65_536, 300_000];
+
 #[test]
 fn an_input_without_end_is_not_read_past_the_limit(rt: HostRuntime) -> Result<(), Fail> {
-    for limit in [0, 5, 65_535, 65_536, 300_000] {
-        let mut endless = Endless { given: 0 };
-        let refusal = read_to_end(rt.alloc(), &mut endless, limit).err();
-        assert_eq!(rt; refusal, Some(ReadRefusal::TooMuch));
-        assert_eq!(rt; endless.given, limit + 1);
+    for limit in ENDLESS {
+        assert!(rt; is_left_at(rt.alloc(), limit), "{limit}");
     }
     Ok(())
 }
 
-#[test]
-fn writes_piece_by_piece(rt: HostRuntime) -> Result<(), Fail> {
-    let alloc = rt.alloc();
-    for (room, piece) in [(8, 1), (8, 3), (9, 9)] {
-        let piece: usize = piece;
-        let mut sink = sink(alloc, room, piece.max(1), &[])?;
-        assert!(rt; write_all(&mut sink, TEXT).is_ok());
-        assert_eq!(rt; sink.written(), TEXT, "by {piece}");
-    }
-    Ok(())
+// Whether writing the text fails, and leaves what was written.
+fn writes(
+    alloc: Global,
+    room: usize,
+    piece: usize,
+    fails: &[u64],
+    written: &[u8],
+    done: bool,
+) -> Result<bool, Fail> {
+    let mut sink = sink(alloc, room, piece.max(1), fails)?;
+    let is_done = write_all(&mut sink, TEXT).is_ok();
+    Ok(is_done == done && sink.written() == written)
 }
 
+// Room, the most of one write, the write that fails, what was written, and whether that is all.
+const WRITES: [(usize, usize, u64, &[u8], bool); 8] = [
+    (8, 1, 9, TEXT, true),
+    (8, 3, 9, TEXT, true),
+    (9, 9, 9, TEXT, true),
+    (8, 3, 0, b"", false),
+    (8, 3, 1, b"sev", false),
+    (5, 3, 9, b"seven", false),
+    (5, 1, 9, b"seven", false),
+    (0, 3, 9, b"", false),
+];
+
 #[test]
-fn a_write_that_fails_leaves_what_was_written(rt: HostRuntime) -> Result<(), Fail> {
-    let alloc = rt.alloc();
-    // Room, the most of one write, the write that fails, what was written.
-    for (room, piece, number, written) in [
-        (8, 3, 0, ""),
-        (8, 3, 1, "sev"),
-        (5, 3, 9, "seven"),
-        (5, 1, 9, "seven"),
-        (0, 3, 9, ""),
-    ] {
-        let piece: usize = piece;
-        let mut sink = sink(alloc, room, piece.max(1), &[number])?;
-        assert_eq!(rt; write_all(&mut sink, TEXT).err(), Some(Failed));
-        assert_eq!(rt; sink.written(), written.as_bytes());
+fn writes_piece_by_piece_until_one_fails(rt: HostRuntime) -> Result<(), Fail> {
+    for (room, piece, number, written, done) in WRITES {
+        assert!(rt; writes(rt.alloc(), room, piece, &[number], written, done)?, "{room} {piece} {number}");
     }
     Ok(())
 }
@@ -143,21 +175,23 @@ impl Read for Signalled {
     }
 }
 
+// How often a signal comes before each read, and what reading comes to.
+const SIGNALS: [(u32, Came); 4] = [
+    (0, Came::Text),
+    (3, Came::Text),
+    (999, Came::Text),
+    (1000, Came::Refused(ReadRefusal::Failed)),
+];
+
+fn came_signalled(alloc: Global, times: u32) -> Came {
+    let mut source = StdSource::new(Signalled { times, bytes: TEXT });
+    came(read_to_end(alloc, &mut source, 100))
+}
+
 #[test]
 fn a_signal_is_no_end_of_input(rt: HostRuntime) -> Result<(), Fail> {
-    let alloc = rt.alloc();
-    for (times, expected) in [
-        (0, Some(TEXT)),
-        (3, Some(TEXT)),
-        (999, Some(TEXT)),
-        (1000, None),
-    ] {
-        let mut source = StdSource::new(Signalled { times, bytes: TEXT });
-        let bytes = read_to_end(alloc, &mut source, 100);
-        match expected {
-            Some(text) => assert_eq!(rt; bytes.ok().ok_or("no bytes")?.as_slice(), text),
-            None => assert_eq!(rt; bytes.err(), Some(ReadRefusal::Failed)),
-        }
+    for (times, wanted) in SIGNALS {
+        assert!(rt; came_signalled(rt.alloc(), times) == wanted, "{times}");
     }
     Ok(())
 }
@@ -196,44 +230,54 @@ impl Write for Troubled {
     }
 }
 
+const TROUBLES: [(Trouble, bool); 4] = [
+    (Trouble::None, true),
+    (Trouble::Signal, true),
+    (Trouble::NothingTaken, false),
+    (Trouble::NoFlush, false),
+];
+
+fn is_taken(trouble: Trouble) -> bool {
+    let mut sink = StdSink::new(Troubled { trouble });
+    write_all(&mut sink, TEXT).is_ok()
+}
+
 #[test]
 fn a_writer_that_takes_nothing_or_does_not_flush_fails(rt: HostRuntime) -> Result<(), Fail> {
-    for (trouble, expected) in [
-        (Trouble::None, None),
-        (Trouble::Signal, None),
-        (Trouble::NothingTaken, Some(Failed)),
-        (Trouble::NoFlush, Some(Failed)),
-    ] {
-        let mut sink = StdSink::new(Troubled { trouble });
-        assert_eq!(rt; write_all(&mut sink, TEXT).err(), expected, "{trouble:?}");
+    for (trouble, taken) in TROUBLES {
+        assert!(rt; is_taken(trouble) == taken, "{trouble:?}");
     }
     Ok(())
 }
 
+// A file of the system, a limit, and what reading comes to.
+const FILES: [(&str, usize, Came); 3] = [
+    ("/dev/null", 0, Came::Other),
+    ("/dev/zero", 100_000, TOO_MUCH),
+    ("/dev", 100, Came::Refused(ReadRefusal::Failed)),
+];
+
+fn came_of_file(rt: &HostRuntime, path: &str, limit: usize) -> Result<Came, Fail> {
+    let mut source = StdSource::new(fs::open(rt, path)?);
+    Ok(came(read_to_end(rt.alloc(), &mut source, limit)))
+}
+
 #[test]
-fn real_files_are_sources_and_sinks(rt: HostRuntime) -> Result<(), Fail> {
-    let alloc = rt.alloc();
-    let mut nothing = StdSource::new(fs::open(&rt, "/dev/null")?);
-    assert_eq!(rt;
-        read_to_end(alloc, &mut nothing, 0)
-            .ok()
-            .ok_or("no end")?
-            .len(),
-        0
-    );
-    let mut endless = StdSource::new(fs::open(&rt, "/dev/zero")?);
-    assert_eq!(rt;
-        read_to_end(alloc, &mut endless, 100_000).err(),
-        Some(ReadRefusal::TooMuch)
-    );
-    let mut folder = StdSource::new(fs::open(&rt, "/dev")?);
-    assert_eq!(rt;
-        read_to_end(alloc, &mut folder, 100).err(),
-        Some(ReadRefusal::Failed)
-    );
-    let mut null = StdSink::new(fs::create(&rt, "/dev/null")?);
-    assert!(rt; write_all(&mut null, TEXT).is_ok());
-    let mut full = StdSink::new(fs::create(&rt, "/dev/full")?);
-    assert_eq!(rt; write_all(&mut full, TEXT).err(), Some(Failed));
+fn real_files_are_sources(rt: HostRuntime) -> Result<(), Fail> {
+    for (path, limit, wanted) in FILES {
+        assert!(rt; came_of_file(&rt, path, limit)? == wanted, "{path}");
+    }
+    Ok(())
+}
+
+fn is_taken_by_file(rt: &HostRuntime, path: &str) -> Result<bool, Fail> {
+    let mut sink = StdSink::new(fs::create(rt, path)?);
+    Ok(write_all(&mut sink, TEXT).is_ok())
+}
+
+#[test]
+fn real_files_are_sinks(rt: HostRuntime) -> Result<(), Fail> {
+    assert!(rt; is_taken_by_file(&rt, "/dev/null")?);
+    assert!(rt; !is_taken_by_file(&rt, "/dev/full")?);
     Ok(())
 }

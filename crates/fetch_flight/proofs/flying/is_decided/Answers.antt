@@ -3,7 +3,7 @@ use Rattle.fetch_flight.proofs.FlightLemmas.{decided-by, open-by}
 use Rattle.fetch_flight.proofs.flying.is_decided.Goals as goal
 
 pub returns-clause-yes : goal.returns-clause-yes
-returns-clause-yes g c = λ yes'. decided-by c.args.parcel.now c.reply_of.result c.reply_of.ensures (sym c.settles.ensures ∙ yes')
+returns-clause-yes g c = λ yes'. decided-by c.args.parcel.now c.reply.result c.reply.ensures (sym c.settles.ensures ∙ yes')
 
 pub returns-clause-no : goal.returns-clause-no
-returns-clause-no g c = λ no'. open-by c.args.parcel.now c.reply_of.result c.reply_of.ensures (sym c.settles.ensures ∙ no')
+returns-clause-no g c = λ no'. open-by c.args.parcel.now c.reply.result c.reply.ensures (sym c.settles.ensures ∙ no')

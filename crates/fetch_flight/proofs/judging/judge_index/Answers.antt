@@ -1,7 +1,7 @@
 use Rattle.std.proofs.Common.{◌≡◌, ap, sym, ◌∙◌, List, ℕ, drop, Err, Result}
 use Rattle.link_io.specs.declared.target.Target.{Target}
 use Rattle.link_io.specs.declared.address.UrlFault.{UrlFault}
-use Rattle.http_reply.specs.Reply.{framed_bytes}
+use Rattle.http_head.specs.Reply.{framed_bytes}
 use Rattle.channel_url.specs.Addresses.{shards_base}
 use Rattle.fetch_flight.proofs.FlightLemmas.{bad_index}
 use Rattle.fetch_flight.proofs.judging.judge_index.Goals as goal

@@ -1,0 +1,6 @@
+mod NumberLemmas
+mod FramingLemmas
+mod HeadLemmas
+pub mod ReplyLemmas
+mod ServedLemmas
+mod UnsettledLemmas

@@ -1,0 +1,8 @@
+use Rattle.std.proofs.Common.{refl, arith}
+use Rattle.http_head.proofs.NumberLemmas.{decimal-over}
+use Rattle.http_head.proofs.framing.decimal.Goals as goal
+
+pub returns-in_default-with_digit : goal.returns-in_default-with_digit
+returns-in_default-with_digit c =
+    let over = decimal-over c.digits.number c.digits.rest.now c.args.digits.now c.digits.invariant.same (omega arith) c.in_default-with_digit.ensures.none in
+    rw over refl

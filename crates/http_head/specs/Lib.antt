@@ -1,0 +1,9 @@
+pub mod Framing
+pub mod Head
+pub mod Reply
+pub mod Law
+pub mod Served
+pub use Rattle.httparse.specs.Grammar
+pub use Rattle.httparse.specs.Spans
+pub use Rattle.gateway_words.specs.Ascii
+pub use Rattle.gateway_words.specs.Limits

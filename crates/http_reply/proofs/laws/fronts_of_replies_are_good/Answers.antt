@@ -1,5 +1,0 @@
-use Rattle.http_reply.proofs.ReplyLemmas.{fronts-are-good}
-use Rattle.http_reply.proofs.laws.fronts_of_replies_are_good.Goals as goal
-
-pub returns : goal.returns
-returns c = fronts-are-good

@@ -1,5 +1,0 @@
-use Rattle.http_reply.proofs.UnsettledLemmas.{nothing-unsettled}
-use Rattle.http_reply.proofs.laws.nothing_is_decided_before_the_first_byte.Goals as goal
-
-pub returns : goal.returns
-returns c = nothing-unsettled
