@@ -62,6 +62,7 @@ impl Model for Name {
 }
 
 impl Name {
+    ghost use Rattle.std.specs.Prelude.{IfOk};
     ghost use Rattle.conda_name.specs.Name.{IsName, fault_of, name_of};
 
     /// The name that a text spells, its letters in lower case.
@@ -79,6 +80,15 @@ impl Name {
         let lower = text.to_ascii_lowercase(alloc)?;
         Ok(Name {
             text: Text::copy(alloc, lower.as_str())?,
+        })
+    }
+
+    /// A copy of the name, in memory of its own.
+    pub fn copy(&self, alloc: Global) -> Result<Name, AllocError>
+        ensures { IfOk result (λ name. name ≡ self.now) }
+    {
+        Ok(Name {
+            text: Text::copy(alloc, self.as_str())?,
         })
     }
 

@@ -8,3 +8,4 @@ pub mod UnderLemmas
 pub mod AscendingLemmas
 pub mod SortedMapLemmas
 pub mod SpanLemmas
+pub mod TwinLemmas

@@ -1,5 +1,6 @@
 pub mod Rows
 pub mod Seen
+pub mod Twin
 pub mod Leaf
 pub mod Names
 pub mod Reading

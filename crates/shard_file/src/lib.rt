@@ -16,6 +16,7 @@ mod shard;
 mod spans;
 #[cfg(test)]
 mod tests;
+mod twin;
 mod writing;
 
 pub use laws::{a_written_shard_is_read, bytes_are_a_shard_or_have_a_first_fault};

@@ -1,0 +1,8 @@
+use Rattle.std.proofs.Common.{◌≡◌, sym, ◌∙◌, ap, ◌++◌}
+use Rattle.std.specs.Ordering.{is_eq}
+use Rattle.std.proofs.lemmas.Map.Text.{is_eq-slice_cmp}
+use Rattle.shard_file.specs.Twin.{newer_ending}
+use Rattle.shard_file.proofs.twin.is_file.Goals as goal
+
+pub returns : goal.returns
+returns c = c.is_eq.ensures ∙ ap is_eq c.compare.ensures ∙ is_eq-slice_cmp c.args.file.now (c.args.stem.now ++ newer_ending)
