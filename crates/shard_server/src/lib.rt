@@ -7,3 +7,6 @@
 mod answer;
 
 pub use answer::{Served, answer};
+
+#[cfg(test)]
+mod tests;
