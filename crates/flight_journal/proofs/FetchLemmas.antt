@@ -127,9 +127,9 @@ holds_step budget s (Landed p g None) may keeps f t holds = absurd (true≢false
 holds_step budget s (Landed p g (Some size)) may keeps f t holds =
     ⊎_elim
     (λ (e : f ≡ g). ⊎_elim
-        (λ (w : Flies s f t). lands e w.0 w.1 w.3)
-        (λ (w : IsKept s f t). lands e w.0 w.1 w.3)
-        holds)
+    (λ (w : Flies s f t). lands e w.0 w.1 w.3)
+    (λ (w : IsKept s f t). lands e w.0 w.1 w.3)
+    holds)
     (λ (ne : f ≢ g). still_holds s (step s (Landed p g (Some size))) f t (λ x known. (x, get_unchanged g f (came_to (Some size) p) s.flights ne ∙ known, refl, refl)) (listed_behind f (g, size) s.kept) holds)
     (cases_eq f g)
   where

@@ -74,5 +74,6 @@ losses_counted (x ∷ xs) js once lost =
   where
     down : (i j : ℕ) → suc i ≡ suc j → i ≡ j
     down i j h = omega arith
+
     never : (n : ℕ) → zero ≡ suc n → ⊥
     never n h = let bad : ⊥ = omega arith in bad

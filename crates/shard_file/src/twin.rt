@@ -57,7 +57,8 @@ impl Shard {
     // Where the rows begin whose file isn't below that of a stem.
     fn first_from(&self, stem: &[u8]) -> usize
         ensures { (name : List ℕ) (k : ℕ) → k < result
-            → row_passes (is_newer (stem.now ++ newer_ending) name) (slice_get self.now.rows k) ≡ false }
+            → row_passes (is_newer (stem.now ++ newer_ending) name)
+            (slice_get self.now.rows k) ≡ false }
     {
         let bytes = self.bytes.as_slice();
         self.rows.partition_point(|row| compare(row.file.text(bytes).as_bytes(), stem).is_lt())
@@ -66,7 +67,8 @@ impl Shard {
     // Where the rows begin whose file is above that of a stem.
     fn first_behind(&self, stem: &[u8]) -> usize
         ensures { (name : List ℕ) (k : ℕ) → result ≤ k
-            → row_passes (is_newer (stem.now ++ newer_ending) name) (slice_get self.now.rows k) ≡ false }
+            → row_passes (is_newer (stem.now ++ newer_ending) name)
+            (slice_get self.now.rows k) ≡ false }
     {
         let bytes = self.bytes.as_slice();
         self.rows.partition_point(|row| compare(row.file.text(bytes).as_bytes(), stem).is_le())
@@ -74,7 +76,8 @@ impl Shard {
 
     // Whether the row of a place is from packages.conda, of a stem and a name.
     fn is_newer(&self, i: usize, stem: &[u8], name: &str) -> bool
-        ensures { result ≡ row_passes (is_newer (stem.now ++ newer_ending) name.now) (slice_get self.now.rows i) }
+        ensures { result ≡ row_passes (is_newer (stem.now ++ newer_ending) name.now)
+            (slice_get self.now.rows i) }
     {
         match self.row(i) {
             Some(row) => is_newer(row, stem, name),
