@@ -1,5 +1,5 @@
 -- Channels, subdirs and places (docs/FORMATS.md, "Places and store names").
-use Rattle.std.specs.Prelude.{ℕ, ◌==◌, ◌||◌, ◌&&◌, not, nat_le, Bool, List, [], ◌∷◌, ◌++◌, length, Option, Some, None, if◌then◌else◌, codes}
+use Rattle.std.specs.Prelude.{ℕ, ◌==◌, ◌||◌, ◌&&◌, not, nat_le, Bool, List, ◌++◌, length, Option, Some, None, if◌then◌else◌, codes}
 use Rattle.std.specs.List.{list_all, before_first, after_first}
 use Rattle.std.specs.Char.{is_ascii_alphanumeric}
 use Rattle.std.specs.Str.{bytes_eq}
@@ -97,10 +97,10 @@ is_shard_name name = is_below_place name && is_shard_file (file_of name)
 abbrev pub is_served_name : List ℕ → Bool
 is_served_name name = is_below_place name && (is_index_file (file_of name) || is_shard_file (file_of name))
 
--- the name that a path names: what stands behind its first `/`, where that is a name that is served
+-- the name that a path names: what stands behind its first `/`, where nothing stands before it and that is a name that
+-- is served
 abbrev pub served_path : List ℕ → Option (List ℕ)
-served_path [] = None
-served_path (b ∷ name) = if b == slash && is_served_name name then Some name else None
+served_path path = if length (channel_of path) == 0 && is_served_name (subdir_of path) then Some (subdir_of path) else None
 
 -- a store name: a place with `/repodata.json`, a place with `/repodata_shards.msgpack`, or a place with `/shards/`,
 -- 64 lower-case hexadecimal digits and `.msgpack`

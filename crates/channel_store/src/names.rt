@@ -1,6 +1,6 @@
 //! The names of channels and subdirs, places, and the names of the files below them.
 
-ghost use Rattle.std.specs.Prelude.{◌≡◌, ◌==◌, ◌||◌, true, Some, None, IfSome, if◌then◌else◌};
+ghost use Rattle.std.specs.Prelude.{◌≡◌, ◌==◌, ◌||◌, true, IfSome};
 ghost use Rattle.std.specs.Option.{option_copied};
 ghost use Rattle.std.specs.List.{list_all, before_first, after_first};
 ghost use Rattle.gateway_words.specs.Ascii.{dot};
@@ -66,19 +66,8 @@ pub fn served_path(path: &str) -> Option<&str>
     ensures name { option_copied result ≡ served_path path.now }
     ensures served { IfSome result (λ name. is_store_name name.now ≡ true) }
 {
-    match path.strip_prefix('/') {
-        Some(name) => name_if_served(name),
-        None => None,
-    }
-}
-
-// The name, if it is served.
-fn name_if_served(name: &str) -> Option<&str>
-    ensures name { option_copied result
-        ≡ (if is_served_name name.now then Some name.now else None) }
-    ensures served { IfSome result (λ name. is_store_name name.now ≡ true) }
-{
-    if is_served_name(name) {
+    let name = subdir_of(path);
+    if channel_of(path).is_empty() && is_served_name(name) {
         Some(name)
     } else {
         None
