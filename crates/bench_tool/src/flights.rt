@@ -83,7 +83,7 @@ fn comes_to_value(alloc: Global, mut parcel: Parcel<ScriptConn>) -> anyhow::Resu
         match advance(alloc, &mut parcel) {
             Progress::Took(_) => {}
             Progress::NotYet => {}
-            Progress::Ready | Progress::Failed => return Ok(has_value(&judge(alloc, parcel)?)),
+            Progress::Ready | Progress::Failed => return Ok(has_value(&*judge(alloc, parcel)?)),
             Progress::Memory => return Err(anyhow!("memory ran out")),
         }
     }

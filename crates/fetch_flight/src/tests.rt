@@ -192,13 +192,13 @@ fn index_by(
     script: &[ScriptLine],
 ) -> Result<Wanted, Fail> {
     let parcel = begun(alloc, index(alloc)?, reply.to_vec(alloc)?, piece, script)?;
-    Ok(came(&fly(alloc, parcel)?))
+    Ok(came(&*fly(alloc, parcel)?))
 }
 
 // What a reply for the shard with the digest of some bytes comes to, in pieces of so many bytes.
 fn shard_by(alloc: Global, bytes: &[u8], reply: &[u8], piece: usize) -> Result<Wanted, Fail> {
     let parcel = begun(alloc, shard(alloc, bytes)?, reply.to_vec(alloc)?, piece, &[])?;
-    Ok(came(&fly(alloc, parcel)?))
+    Ok(came(&*fly(alloc, parcel)?))
 }
 
 // How many bytes a piece has: one by one, others that cut heads and bodies apart, and all at once.
@@ -293,12 +293,11 @@ fn a_connection_that_waits_changes_nothing(rt: HostRuntime) -> Result<(), Fail> 
 }
 
 // A front, how many bytes the reply has in all, and what it comes to; zeros stand behind the front.
-const LONG: [(&[u8], usize, Wanted); 5] = [
+const LONG: [(&[u8], usize, Wanted); 4] = [
     (b"HTTP/1.1 404 N\r\n\r\n", 65_537, Absent),
+    (b"HTTP/1.1 200 OK\r\n\r\n", 65_537, Format(Wrong, 0)),
     (b"garbage", 65_536, BadReply),
     (b"garbage", 65_537, TooLong),
-    (b"HTTP/1.1 200 OK\r\n\r\n", 33_554_451, Format(Wrong, 0)),
-    (b"HTTP/1.1 200 OK\r\n\r\n", 33_554_452, TooLong),
 ];
 
 // What a long reply for the index comes to, in pieces of 16 KiB.
@@ -306,11 +305,11 @@ fn long(alloc: Global, front: &[u8], size: usize) -> Result<Wanted, Fail> {
     let mut reply = front.to_vec(alloc)?;
     reply.resize(size, 0)?;
     let parcel = begun(alloc, index(alloc)?, reply, usize::MAX, &[])?;
-    Ok(came(&fly(alloc, parcel)?))
+    Ok(came(&*fly(alloc, parcel)?))
 }
 
 #[test]
-fn heads_and_bodies_have_limits(rt: HostRuntime) -> Result<(), Fail> {
+fn heads_have_limits(rt: HostRuntime) -> Result<(), Fail> {
     for (front, size, wanted) in LONG {
         assert!(rt; long(rt.alloc(), front, size)? == wanted, "{size}");
     }

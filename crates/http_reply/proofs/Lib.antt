@@ -1,7 +1,1 @@
 mod RequestLemmas
-mod NumberLemmas
-mod FramingLemmas
-mod HeadLemmas
-pub mod ReplyLemmas
-mod ServedLemmas
-mod UnsettledLemmas

@@ -21,6 +21,7 @@ pub fn request_size(target: &Target) -> usize
     size_for(&target.url)
 }
 
+const SCHEME: &[u8] = b"http://";
 const GET: &[u8] = b"GET ";
 const VERSION_AND_HOST: &[u8] = b" HTTP/1.0\r\nHost: ";
 const ACCEPT_AND_CLOSE: &[u8] = b"\r\nAccept: */*\r\nConnection: close\r\n\r\n";
@@ -39,10 +40,11 @@ fn request_for(alloc: Global, url: &HttpUrl) -> Result<Vec<u8>, AllocError>
     Ok(text)
 }
 
-// How many bytes that has.
+// How many bytes that has: an address is `http://`, its authority and its path.
+#[tactic(auto, using(crate::proofs::RequestLemmas::size_is, crate::proofs::RequestLemmas::is_short))]
 fn size_for(url: &HttpUrl) -> usize
     ensures { result ≡ length (request_bytes url.now) }
 {
     let fixed = GET.len() + VERSION_AND_HOST.len() + ACCEPT_AND_CLOSE.len();
-    fixed + url.path().len() + url.authority().len()
+    fixed + url.as_str().len().saturating_sub(SCHEME.len())
 }
