@@ -18,7 +18,8 @@ pub fn put_record_line(
     file: &str,
     view: RecordView<'_>,
 ) -> Result<(), AllocError>
-    ensures ok { OnOk result (out.new.items ≡ out.old.items ++ record_line file.now (seen view.entry)) }
+    ensures ok { OnOk result (out.new.items
+        ≡ out.old.items ++ record_line file.now (seen view.entry)) }
     ensures unchanged { OnErr result (out.new.items ≡ out.old.items) }
 {
     let old = out.len();
@@ -28,7 +29,8 @@ pub fn put_record_line(
 
 // Appends the line; at want of memory some of it may stand.
 fn put_words(out: &mut Vec<u8>, file: &str, view: RecordView<'_>) -> Result<(), AllocError>
-    ensures ok { OnOk result (out.new.items ≡ out.old.items ++ record_line file.now (seen view.entry)) }
+    ensures ok { OnOk result (out.new.items
+        ≡ out.old.items ++ record_line file.now (seen view.entry)) }
     ensures kept { OnErr result (take (length out.old.items) out.new.items ≡ out.old.items) }
 {
     put_word(out, file)?;
