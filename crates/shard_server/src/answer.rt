@@ -58,7 +58,7 @@ pub fn answer<S: Store>(
     let Some(name) = served_path(path) else {
         return Ok(empty(alloc, NOT_FOUND));
     };
-    match store.get(alloc, name, MOST_SERVED_BYTES) {
+    match store.get(alloc, name, MOST_SERVED_BYTES as u64) {
         Ok(got) => Ok(of_found(alloc, method, got)),
         Err(StoreRefusal::Failed) => Ok(empty(alloc, SERVICE_UNAVAILABLE)),
         Err(StoreRefusal::Memory) => Err(AllocError),
