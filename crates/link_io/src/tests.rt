@@ -32,7 +32,7 @@ enum Came {
     Refused(ReadRefusal),
 }
 
-fn came(read: Result<Vec<u8>, ReadRefusal>) -> Came {
+fn outcome_of(read: Result<Vec<u8>, ReadRefusal>) -> Came {
     match read {
         Ok(bytes) => {
             if bytes.as_slice() == TEXT {
@@ -47,7 +47,7 @@ fn came(read: Result<Vec<u8>, ReadRefusal>) -> Came {
 
 fn came_by(alloc: Global, piece: usize, fails: &[u64], limit: usize) -> Result<Came, Fail> {
     let mut source = source(alloc, piece.max(1), fails)?;
-    Ok(came(read_to_end(alloc, &mut source, limit)))
+    Ok(outcome_of(read_to_end(alloc, &mut source, limit)))
 }
 
 const TOO_MUCH: Came = Came::Refused(ReadRefusal::TooMuch);
@@ -106,7 +106,7 @@ impl Source for Endless {
 // Whether an input without end is refused behind one byte more than the limit.
 fn is_left_at(alloc: Global, limit: usize) -> bool {
     let mut endless = Endless { given: 0 };
-    let came = came(read_to_end(alloc, &mut endless, limit));
+    let came = outcome_of(read_to_end(alloc, &mut endless, limit));
     came == TOO_MUCH && endless.given.checked_sub(limit) == Some(1)
 }
 
@@ -191,7 +191,7 @@ const SIGNALS: [(u32, Came); 4] = [
 
 fn came_signalled(alloc: Global, times: u32) -> Came {
     let mut source = StdSource::new(Signalled { times, bytes: TEXT });
-    came(read_to_end(alloc, &mut source, 100))
+    outcome_of(read_to_end(alloc, &mut source, 100))
 }
 
 #[test]
@@ -265,7 +265,7 @@ const FILES: [(&str, usize, Came); 3] = [
 
 fn came_of_file(rt: &HostRuntime, path: &str, limit: usize) -> Result<Came, Fail> {
     let mut source = StdSource::new(fs::open(rt, path)?);
-    Ok(came(read_to_end(rt.alloc(), &mut source, limit)))
+    Ok(outcome_of(read_to_end(rt.alloc(), &mut source, limit)))
 }
 
 #[test]
