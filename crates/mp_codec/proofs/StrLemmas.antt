@@ -6,15 +6,16 @@ use Rattle.std.specs.Str.{is_utf8}
 use Rattle.std.proofs.lemmas.Bool.{le-ltb}
 use Rattle.std.proofs.lemmas.List.{drop-drop, length-drop}
 use Rattle.gateway_words.specs.Places.{Position, behind}
+use Rattle.gateway_words.specs.Reading.{◌>>=◌}
 use Rattle.mp_codec.specs.declared.fault.FaultKind.{FaultKind}
 use Rattle.mp_codec.specs.declared.fault.FaultKind.TheVariants as kind
 use Rattle.mp_codec.specs.declared.head.Head.{Head}
 use Rattle.mp_codec.specs.declared.head.Head.TheVariants as head
-use Rattle.mp_codec.specs.Format.{head_at}
+use Rattle.mp_codec.specs.Format.{head_at, payload_len}
 use Rattle.mp_codec.specs.Value.{str_len, whole}
 use Rattle.mp_codec.specs.Spelling.{short}
 use Rattle.mp_codec.specs.Fault.{fault_here}
-use Rattle.mp_codec.specs.Reading.{placed_head, head_from, bytes_from}
+use Rattle.mp_codec.specs.Reading.{placed_head, head_from, bytes_from, node_from}
 use Rattle.mp_codec.specs.Maps.{IsStr, text_or_wrong, text_from, bytes_or_skipped, str_from, number_or_skipped, number_from}
 use Rattle.mp_codec.proofs.BindLemmas.{bind_ok}
 use Rattle.mp_codec.proofs.PlaceLemmas.{position}
@@ -50,6 +51,13 @@ unfolding str_from
 str_read bytes here there s =
     bind_ok (head_from here) (λ h. bytes_or_skipped (str_len h.0) here h.1) (head.Str (length bytes), s.mid) s.head
     ∙ bind_ok (bytes_from (length bytes) s.mid) (λ t. Ok (Some t.0, t.1)) (bytes, there) s.payload
+
+-- and as a node without values in it
+pub node_read : (bytes : List ℕ) (here there : Position) → IsStr bytes here there → node_from here ≡ Ok (head.Str (length bytes), bytes, there)
+unfolding node_from
+node_read bytes here there s =
+    bind_ok (head_from here) (λ h. bytes_from (payload_len h.0) h.1 >>= λ p. Ok (h.0, p.0, p.1)) (head.Str (length bytes), s.mid) s.head
+    ∙ bind_ok (bytes_from (length bytes) s.mid) (λ p. Ok (head.Str (length bytes), p.0, p.1)) (bytes, there) s.payload
 
 -- and as text, where it is text
 pub text_read : (bytes : List ℕ) (here there : Position) → IsStr bytes here there → is_utf8 bytes ≡ true → text_from here ≡ Ok (bytes, there)

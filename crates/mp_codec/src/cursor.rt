@@ -206,8 +206,22 @@ impl<'a> Cursor<'a> {
     }
 
     // Passes over the head and the payload of the next value, and says how many values are in it.
-    #[tactic(auto, unfolding(crate::specs::Reading::node_from))]
+    #[inline(always)]
     fn next_node(&mut self) -> Result<u64, FormatFault>
+        ensures { NodePasses result self.new (node_from self.old) }
+    {
+        match self.short_str() {
+            Some((_, len)) => {
+                self.pass(len);
+                Ok(0)
+            }
+            None => self.next_other_node(),
+        }
+    }
+
+    // The same of any value.
+    #[tactic(auto, unfolding(crate::specs::Reading::node_from))]
+    fn next_other_node(&mut self) -> Result<u64, FormatFault>
         ensures { NodePasses result self.new (node_from self.old) }
     {
         let head = self.next_head()?;
@@ -216,6 +230,7 @@ impl<'a> Cursor<'a> {
     }
 
     // The head of the next value.
+    #[inline(always)]
     #[tactic(auto, unfolding(crate::specs::Reading::head_from))]
     fn next_head(&mut self) -> Result<Head, FormatFault>
         ensures { Steps (λ head. head) self.old self.new result (head_from self.old) }
