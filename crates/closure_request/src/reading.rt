@@ -82,11 +82,7 @@ fn cut(text: &str) -> (&str, Option<&str>)
 }
 
 // Adds the spec of the next piece.
-fn add_spec(
-    alloc: Global,
-    piece: &str,
-    specs: &mut Vec<Spec>,
-) -> Result<(), RequestRefusal>
+fn add_spec(alloc: Global, piece: &str, specs: &mut Vec<Spec>) -> Result<(), RequestRefusal>
     ensures { Gives (λ _. specs.new.items) fault_of result (with_spec specs.old.items piece.now) }
 {
     let number = (specs.len() as u64)
