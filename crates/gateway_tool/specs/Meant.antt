@@ -1,5 +1,5 @@
 -- What a command that was read from words asks for.
-use Rattle.std.specs.Prelude.{◌≡◌, true, Unit}
+use Rattle.std.specs.Prelude.{◌≡◌, true}
 use Rattle.channel_store.specs.Names.{is_place}
 use Rattle.gateway_tool.specs.declared.words.Command.{Command}
 use Rattle.gateway_tool.specs.declared.words.Command.TheVariants as command

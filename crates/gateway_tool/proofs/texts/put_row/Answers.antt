@@ -15,6 +15,6 @@ loop-i-preserved c =
           let more = one-more depend_line depends c.loop-i.i text (sym w.in-Some.ensures) in
           let before = flat_map depend_line (take c.loop-i.i depends) in
           let lines : List ℕ → List ℕ = λ l. c.put_record_line.new.out.items ++ l in
-          rw w.out-is (w.in_ok-put_depend.ensures ∙ ap (λ (l : List ℕ). l ++ depend_line text) c.loop-i.invariant ∙ append_assoc c.put_record.new.out.items before (depend_line text) ∙ ap lines (sym more))
+          rw w.out-is (w.in_ok-put_depend.ensures ∙ ap (λ (l : List ℕ). l ++ depend_line text) c.loop-i.invariant ∙ append_assoc c.put_record_line.new.out.items before (depend_line text) ∙ ap lines (sym more))
       | in_default w ↦ absurd (is-there depends c.loop-i.i (omega arith) (sym w.in_default.ensures))
     ]
