@@ -1,2 +1,3 @@
 mod LeadLemmas
 mod TextLemmas
+mod WordLemmas

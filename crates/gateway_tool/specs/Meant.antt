@@ -10,6 +10,11 @@ abbrev pub meant : Command → Asked
 meant (command.Show spec) = Show spec
 meant (command.Index place) = Index place.now
 
+-- what is asked is show
+abbrev pub IsShow : Asked → Type 0
+IsShow (Show spec) = Unit
+IsShow (Index place) = ⊥
+
 -- the place of the command, if it has one, is one
 abbrev pub HasPlace : Command → Type 0
 HasPlace (command.Show spec) = Unit

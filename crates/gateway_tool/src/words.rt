@@ -4,7 +4,7 @@ ghost use Rattle.channel_store.specs.Names.{is_place};
 ghost use Rattle.std.specs.Option.{option_copied};
 ghost use Rattle.gateway_tool.specs.Words.{is_option, spec_word, place_word, show_words, index_words, shown_spec};
 ghost use Rattle.gateway_tool.specs.Command.{command_of};
-ghost use Rattle.gateway_tool.specs.Meant.{meant, HasPlace};
+ghost use Rattle.gateway_tool.specs.Meant.{meant, HasPlace, IsShow};
 
 use channel_store::is_place;
 use match_spec::{Spec, SpecRefusal};
@@ -34,6 +34,8 @@ pub(crate) fn command_of(alloc: Global, words: &[Text]) -> Result<Command<'_>, W
     ensures found { IfOk result (λ command. command_of words.now ≡ Some (meant command)) }
     ensures place { IfOk result HasPlace }
     ensures usage { IsErrOf result WordsRefusal.Usage → command_of words.now ≡ None }
+    // Memory is taken for a spec alone.
+    ensures memory { IsErrOf result WordsRefusal.Memory → IfSome (command_of words.now) IsShow }
 {
     let [name, words @ ..] = words else {
         return Err(WordsRefusal::Usage);
