@@ -1,26 +1,23 @@
 -- Flights that nobody awaits behind a query that left.
-use Rattle.std.proofs.Common.{◌≡◌, ◌≢◌, ◌⊎◌, ℕ, zero, suc, ◌+◌, ◌<◌, ◌≤◌, Bool, true, false, true≢false, List, [], ◌∷◌, ◌++◌, length, map, Option, Some, None, slice_get, slice_index, refl, sym, ap, ◌∙◌, subst, ⊎_elim, inl, inr, arith, append-nil}
+use Rattle.std.proofs.Common.{◌≡◌, ◌≢◌, ◌⊎◌, ℕ, ◌+◌, ◌<◌, ◌≤◌, Bool, true, false, true≢false, List, [], ◌∷◌, ◌++◌, length, Option, Some, None, slice_get, slice_index, refl, sym, ap, ◌∙◌, subst, ⊎_elim, inl, inr, arith}
 use Rattle.std.specs.List.Sorted.{IsStrictlyIncreasing}
 use Rattle.std.specs.Ordering.{nat_cmp}
 use Rattle.std.specs.Option.{option_map}
-use Rattle.std.specs.declared.cmp.Ordering.{Ordering}
 use Rattle.std.specs.BTreeMap.{BTreeMap, get}
 use Rattle.std.proofs.lemmas.Bool.{cases_eq}
-use Rattle.shard_cache.specs.Recency.{is_listed, total_of}
+use Rattle.shard_cache.specs.Recency.{is_listed}
 use Rattle.link_io.specs.Parcel.{Packed}
-use Rattle.link_io.specs.declared.target.Key.{Key}
 use Rattle.link_io.specs.declared.target.Target.{Target}
 use Rattle.flight_journal.specs.declared.entry.Entry.{Entry}
-use Rattle.flight_journal.specs.declared.entry.Entry.TheVariants.{Opened, Cancelled, Closed, Abandoned}
+use Rattle.flight_journal.specs.declared.entry.Entry.TheVariants.{Cancelled, Closed, Abandoned}
 use Rattle.flight_journal.specs.State.{Phase, flying, landed, gone, Flight, State, IsFlight, is_one_of, all_but, is_flying, is_landed, WaitsIn, IsOwed, IsOpen, parted, ended, change, left_by}
-use Rattle.flight_journal.specs.Journal.{after, step, Allowed, IsSettled, AreAwaited, IsAlone, IsLeastAlone}
+use Rattle.flight_journal.specs.Journal.{step, Allowed, IsSettled, AreAwaited, IsAlone, IsLeastAlone}
 use Rattle.flight_journal.specs.Count.{begun_in}
 use Rattle.flight_journal.proofs.ListLemmas.{get_changed, get_unchanged, get_map}
-use Rattle.flight_journal.proofs.CarryLemmas.{one_flight}
 use Rattle.flight_rows.specs.declared.row.Row.{Row}
 use Rattle.flight_rows.specs.declared.row.At.{At}
 use Rattle.flight_rows.specs.declared.row.At.TheVariants.{Here, Away, Came}
-use Rattle.flight_rows.specs.Rows.{AtFits, RowFits, FlightFits, RowAt, RowsFit, Keeps, Holds, hand_of, hands_of}
+use Rattle.flight_rows.specs.Rows.{AtFits, FlightFits, RowsFit, hand_of, hands_of}
 use Rattle.flight_rows.specs.Changes.{IsLone, Parts}
 use Rattle.flight_rows.specs.Sight.{hand_in}
 use Rattle.flight_rows.specs.Serves.{IsLeaving, abandonments}
@@ -76,6 +73,7 @@ alone_before f g s alone = (apart, (alone.0, sym (get_unchanged f g ended s.flig
     never : (o : Option Flight) → option_map ended o ≡ Some alone.0 → ⊥
     never None m = cc
     never (Some x) m = let same : ended x ≡ alone.0 = cc in let bad : gone ≡ flying = ap (λ (y : Flight). y.phase) same ∙ alone.2 in cc
+
     apart : g ≢ f
     apart e = never (slice_get s.flights f) (sym (get_changed f ended s.flights) ∙ ap (λ n. slice_get (change f ended s.flights) n) (sym e) ∙ alone.1)
 
@@ -89,10 +87,13 @@ least_alone s flights i rising below all alone = (alone, λ g x less known flies
   where
     between : (a b : ℕ) → a ≤ b → b ≢ a → a < b
     between a b h ne = omega arith
+
     not_less : (a b : ℕ) → a < b → b ≡ a → ⊥
     not_less a b h e = let bad : ⊥ = omega arith in bad
+
     not_more : (a b c : ℕ) → a < b → b < c → c ≡ a → ⊥
     not_more a b c h k e = let bad : ⊥ = omega arith in bad
+
     before : (g : ℕ) (x : Flight) → g < slice_index flights i → (n : ℕ) × (i ≤ n) × (n < length flights) × (slice_index flights n ≡ g) → ⊥
     before g x less w =
         ⊎_elim

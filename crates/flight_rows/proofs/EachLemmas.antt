@@ -1,12 +1,11 @@
 -- A query leaves flights, one after another.
-use Rattle.std.proofs.Common.{◌≡◌, ◌≢◌, ◌⊎◌, ℕ, zero, suc, ◌+◌, ◌-◌, ◌<◌, ◌≤◌, ◌==◌, ◌||◌, not, cond, Bool, true, false, true≢false, List, [], ◌∷◌, length, filter, Option, Some, None, slice_get, slice_index, refl, sym, ap, ◌∙◌, subst, ⊎_elim, inl, inr, arith}
+use Rattle.std.proofs.Common.{◌≡◌, ◌≢◌, ◌⊎◌, ℕ, zero, suc, ◌+◌, ◌-◌, ◌<◌, ◌==◌, ◌||◌, not, cond, Bool, true, false, true≢false, List, [], ◌∷◌, length, Option, Some, None, slice_index, refl, sym, ap, ◌∙◌, subst, ⊎_elim, inl, inr, arith}
 use Rattle.std.specs.List.Sorted.{IsStrictlyIncreasing}
 use Rattle.std.specs.Ordering.{nat_cmp}
 use Rattle.std.specs.BTreeMap.{BTreeMap, get}
 use Rattle.std.proofs.lemmas.Bool.{cases_eq}
 use Rattle.flight_journal.specs.State.{is_one_of, all_but}
 use Rattle.flight_rows.specs.declared.row.Row.{Row}
-use Rattle.flight_rows.specs.declared.row.At.TheVariants.{Here, Away, Came}
 use Rattle.flight_rows.specs.Changes.{Parts}
 
 -- ---- numbers that rise
@@ -41,13 +40,14 @@ stands_or_not g (x ∷ xs) =
     ⊎_elim
     (λ (e : x ≡ g). inl (zero, omega arith, e))
     (λ (ne : x ≢ g). ⊎_elim
-        (λ (w : (n : ℕ) × (n < length xs) × (slice_index xs n ≡ g)). inl (suc w.0, up w.0 w.1, w.2))
-        (λ (h : (n : ℕ) → n < length xs → slice_index xs n ≢ g). inr (λ n below same. none ne h n below same))
-        (stands_or_not g xs))
+    (λ (w : (n : ℕ) × (n < length xs) × (slice_index xs n ≡ g)). inl (suc w.0, up w.0 w.1, w.2))
+    (λ (h : (n : ℕ) → n < length xs → slice_index xs n ≢ g). inr (λ n below same. none ne h n below same))
+    (stands_or_not g xs))
     (cases_eq x g)
   where
     up : (n : ℕ) → n < length xs → suc n < suc (length xs)
     up n below = omega arith
+
     none : x ≢ g → ((n : ℕ) → n < length xs → slice_index xs n ≢ g) → (n : ℕ) → n < suc (length xs) → slice_index (x ∷ xs) n ≡ g → ⊥
     none ne h zero below same = ne same
     none ne h (suc n) below same = h n (omega arith) same
@@ -76,7 +76,7 @@ module _ {L V : Type 0} (q : ℕ) (flights : List ℕ) (rows : BTreeMap ℕ (Row
   part_more i now next rising below parted others here same = (
     (λ n less. ⊎_elim
         (λ (e : n ≡ i). subst (λ m. Parts q (get nat_cmp rows (slice_index flights m)) (get nat_cmp next (slice_index flights m))) (sym e)
-            (subst (λ (o : Option (Row L V)). Parts q o (get nat_cmp next (slice_index flights i))) (others (slice_index flights i) (λ m before e. apart m before e)) here))
+        (subst (λ (o : Option (Row L V)). Parts q o (get nat_cmp next (slice_index flights i))) (others (slice_index flights i) (λ m before e. apart m before e)) here))
         (λ (ne : n ≢ i). subst (λ (o : Option (Row L V)). Parts q (get nat_cmp rows (slice_index flights n)) o) (sym (same (slice_index flights n) (λ e. apart n (omega arith) e))) (parted n (omega arith)))
         (cases_eq n i)),
     (λ g none. same g (λ e. none i (omega arith) (sym e)) ∙ others g (λ n before. none n (omega arith))),

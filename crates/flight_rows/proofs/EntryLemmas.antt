@@ -1,5 +1,5 @@
 -- What each entry keeps.
-use Rattle.std.proofs.Common.{◌≡◌, ◌≢◌, ◌⊎◌, ℕ, zero, suc, ◌+◌, ◌<◌, ◌≤◌, Bool, true, false, true≢false, ◌==◌, ◌||◌, if◌then◌else◌, List, [], ◌∷◌, ◌++◌, length, map, Option, Some, None, slice_get, refl, sym, ap, ◌∙◌, subst, ⊎_elim, inl, inr, arith, append-nil, append_assoc, length-append}
+use Rattle.std.proofs.Common.{◌≡◌, ◌≢◌, ℕ, ◌+◌, ◌≤◌, Bool, true, false, true≢false, ◌==◌, ◌||◌, List, [], ◌∷◌, ◌++◌, length, Option, Some, None, slice_get, refl, sym, ap, ◌∙◌, subst, ⊎_elim, inl, inr, arith, append-nil, append_assoc, length-append}
 use Rattle.flight_rows.specs.Sight.{ArePlain}
 use Rattle.flight_rows.proofs.StateLemmas.{none_plain, one_plain, plain_append}
 use Rattle.std.proofs.lemmas.List.{length-map}
@@ -8,7 +8,7 @@ use Rattle.std.specs.Ordering.{nat_cmp, is_eq}
 use Rattle.std.specs.declared.cmp.Ordering.{Ordering}
 use Rattle.std.specs.Map.{lookup, remove_entry}
 use Rattle.std.specs.BTreeMap.{BTreeMap, get, is_at, Updates, insert_entry}
-use Rattle.std.specs.declared.cmp.Ordering.TheVariants.{Less, Equal, Greater}
+use Rattle.std.specs.declared.cmp.Ordering.TheVariants.{Equal}
 use Rattle.std.proofs.lemmas.Bool.{cases_eq}
 use Rattle.link_io.specs.Parcel.{Packed}
 use Rattle.shard_cache.specs.Recency.{is_listed}
@@ -17,17 +17,17 @@ use Rattle.link_io.specs.declared.target.Target.{Target}
 use Rattle.flight_journal.specs.declared.entry.Entry.{Entry}
 use Rattle.flight_journal.specs.declared.entry.Entry.TheVariants.{Opened, Began, Joined, Hit, Taken, Landed, Lost, Cancelled, Closed, Evicted, Refreshed, Abandoned}
 use Rattle.flight_rows.specs.declared.row.Row.{Row}
-use Rattle.flight_journal.specs.State.{Phase, flying, landed, gone, Flight, State, nothing, is_one_of, is_flying, is_landed, WaitsIn, IsOwed, Flies, IsKept, IsOpen, joined, parted, came_to, ended, change}
+use Rattle.flight_journal.specs.State.{Phase, flying, landed, gone, Flight, State, nothing, is_one_of, is_flying, WaitsIn, Flies, IsOpen, joined, parted, came_to, ended, change}
 use Rattle.flight_journal.specs.Journal.{step, after_from, after, Allowed, LegalFrom, Legal, IsSettled, AreAwaited, IsFreeKey}
 use Rattle.flight_rows.specs.Changes.{Changes}
 use Rattle.flight_rows.specs.declared.row.At.{At}
 use Rattle.flight_rows.specs.declared.row.At.TheVariants.{Here, Away, Came}
 use Rattle.std.specs.Option.{IsSome, option_map}
 use Rattle.flight_journal.specs.Count.{begun_in}
-use Rattle.flight_rows.specs.Rows.{AtFits, RowFits, FlightFits, RowAt, RowsFit, KeysFit, Holds, Keeps, needed, open_among, owed_by, owed_for, is_live}
+use Rattle.flight_rows.specs.Rows.{AtFits, RowFits, FlightFits, RowAt, RowsFit, KeysFit, Holds, Keeps, open_among, owed_by, owed_for, is_live}
 use Rattle.flight_rows.proofs.RowLemmas.{rows_change, keys_same, keys_add}
 use Rattle.flight_rows.proofs.WriteLemmas.{not_at, removed_again_by}
-use Rattle.flight_journal.proofs.PushLemmas.{after_push, legal_push, begun_push, begun_same}
+use Rattle.flight_journal.proofs.PushLemmas.{after_push, legal_push, begun_push}
 use Rattle.flight_rows.proofs.StateLemmas.{owed_change}
 use Rattle.flight_journal.proofs.ListLemmas.{length_more, get_changed, get_unchanged, length_change, get_last, get_before_last}
 use Rattle.std.proofs.lemmas.Option.{slice_get_past}

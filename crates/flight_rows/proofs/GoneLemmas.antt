@@ -1,5 +1,5 @@
 -- What is still to be written of a query that leaves, and of the flights that it leaves alone.
-use Rattle.std.proofs.Common.{◌≡◌, ◌≢◌, ◌⊎◌, ℕ, zero, suc, ◌+◌, ◌<◌, ◌≤◌, Bool, true, false, List, [], ◌∷◌, ◌++◌, length, map, Option, Some, None, slice_get, slice_index, if◌then◌else◌, refl, sym, ap, ◌∙◌, subst, ⊎_elim, inl, inr, arith}
+use Rattle.std.proofs.Common.{◌≡◌, ◌≢◌, ◌⊎◌, ℕ, ◌+◌, ◌≤◌, true, false, List, [], ◌∷◌, ◌++◌, length, Option, Some, None, if◌then◌else◌, sym, ap, ◌∙◌, subst, ⊎_elim, inl, arith}
 use Rattle.std.specs.Ordering.{nat_cmp}
 use Rattle.std.specs.Option.{option_map}
 use Rattle.std.specs.declared.cmp.Ordering.{Ordering}
@@ -9,17 +9,16 @@ use Rattle.link_io.specs.Parcel.{Packed}
 use Rattle.link_io.specs.declared.target.Key.{Key}
 use Rattle.link_io.specs.declared.target.Target.{Target}
 use Rattle.flight_journal.specs.declared.entry.Entry.{Entry}
-use Rattle.flight_journal.specs.State.{Flight, State, is_flying, is_one_of, all_but, WaitsIn, IsOwed, IsOpen, ended, left_by}
+use Rattle.flight_journal.specs.State.{State, is_flying, is_one_of, all_but, WaitsIn, IsOwed, IsOpen, ended, left_by}
 use Rattle.flight_journal.specs.Journal.{after, step, AreAwaited, IsAlone}
 use Rattle.flight_journal.proofs.PushLemmas.{after_push}
 use Rattle.flight_rows.specs.declared.row.Row.{Row}
-use Rattle.flight_rows.specs.declared.row.At.{At}
-use Rattle.flight_rows.specs.declared.row.At.TheVariants.{Here, Away, Came}
-use Rattle.flight_rows.specs.Rows.{Keeps, needed, open_among, owed_by, owed_for, hand_of, hands_of}
+use Rattle.flight_rows.specs.declared.row.At.TheVariants.{Came}
+use Rattle.flight_rows.specs.Rows.{Keeps, owed_by, hand_of, hands_of}
 use Rattle.flight_rows.specs.Changes.{IsLone, Parts}
 use Rattle.flight_rows.specs.Sight.{flat, hand_in}
 use Rattle.flight_rows.proofs.StateLemmas.{owed_change}
-use Rattle.flight_rows.proofs.WriteLemmas.{hand_lookup, not_at}
+use Rattle.flight_rows.proofs.WriteLemmas.{hand_lookup}
 use Rattle.flight_rows.proofs.TakeLemmas.{moves_out, hand_row}
 use Rattle.flight_rows.proofs.LeaveLemmas.{one_closed}
 use Rattle.flight_rows.proofs.EachLemmas.{one_at}

@@ -1,5 +1,5 @@
 -- A key is looked up, and a kept value is taken.
-use Rattle.std.proofs.Common.{◌≡◌, ◌≢◌, ◌⊎◌, ℕ, zero, suc, ◌+◌, ◌<◌, ◌≤◌, ◌==◌, ◌||◌, Bool, true, false, true≢false, if◌then◌else◌, List, [], ◌∷◌, ◌++◌, length, Option, Some, None, slice_get, refl, sym, ap, ◌∙◌, subst, ⊎_elim, inl, inr, arith, append-nil, Global}
+use Rattle.std.proofs.Common.{◌≡◌, ℕ, suc, ◌+◌, ◌≤◌, ◌==◌, ◌||◌, Bool, true, false, true≢false, if◌then◌else◌, List, [], ◌∷◌, ◌++◌, length, Option, Some, None, slice_get, refl, sym, ap, ◌∙◌, subst, ⊎_elim, arith, append-nil, Global}
 use Rattle.std.specs.declared.sync.Arc.{Arc}
 use Rattle.std.specs.Ordering.{nat_cmp}
 use Rattle.std.specs.declared.cmp.Ordering.{Ordering}
@@ -10,7 +10,7 @@ use Rattle.link_io.specs.declared.target.Key.{Key}
 use Rattle.link_io.specs.declared.target.Target.{Target}
 use Rattle.flight_journal.specs.declared.entry.Entry.{Entry}
 use Rattle.flight_journal.specs.declared.entry.Entry.TheVariants.{Hit}
-use Rattle.flight_journal.specs.State.{Phase, flying, landed, gone, Flight, State, is_flying, Flies, IsKept, HoldsKey, IsOpen}
+use Rattle.flight_journal.specs.State.{landed, Flight, State, is_flying, Flies, IsKept, IsOpen}
 use Rattle.flight_journal.specs.Journal.{after, step, IsSettled, IsFreeKey}
 use Rattle.flight_journal.proofs.PushLemmas.{after_push}
 use Rattle.flight_journal.proofs.CarryLemmas.{one_flight}
@@ -18,9 +18,8 @@ use Rattle.flight_journal.proofs.LegalLemmas.{sized_after}
 use Rattle.flight_rows.specs.declared.row.Row.{Row}
 use Rattle.flight_rows.specs.declared.row.At.{At}
 use Rattle.flight_rows.specs.declared.row.At.TheVariants.{Here, Away, Came}
-use Rattle.flight_rows.specs.declared.asking.Found.{Found}
 use Rattle.flight_rows.specs.declared.asking.Found.TheVariants as found
-use Rattle.flight_rows.specs.Rows.{AtFits, RowFits, FlightFits, RowAt, RowsFit, KeysFit, Holds, Keeps, is_live, needed}
+use Rattle.flight_rows.specs.Rows.{AtFits, FlightFits, RowAt, RowsFit, KeysFit, Holds, Keeps, is_live}
 use Rattle.flight_rows.specs.Places.{FindsKey}
 use Rattle.flight_rows.proofs.StateLemmas.{none_plain}
 use Rattle.flight_rows.proofs.EntryLemmas.{written, flies_if}

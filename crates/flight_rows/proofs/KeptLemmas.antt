@@ -1,9 +1,9 @@
 -- A landing that is kept, and an eviction.
-use Rattle.std.proofs.Common.{◌≡◌, ◌≢◌, ◌⊎◌, ℕ, zero, suc, ◌+◌, ◌<◌, ◌≤◌, ◌==◌, ◌||◌, not, cond, if◌then◌else◌, Bool, true, false, true≢false, List, [], ◌∷◌, ◌++◌, length, filter, Option, Some, None, slice_get, refl, sym, ap, ◌∙◌, subst, ⊎_elim, inl, inr, arith, append-nil, eq-eqb, ne_eqb, Global}
+use Rattle.std.proofs.Common.{◌≡◌, ◌≢◌, ◌⊎◌, ℕ, suc, ◌+◌, ◌<◌, ◌≤◌, ◌==◌, ◌||◌, not, cond, if◌then◌else◌, Bool, true, false, true≢false, List, [], ◌∷◌, ◌++◌, length, Option, Some, None, slice_get, refl, sym, ap, ◌∙◌, subst, ⊎_elim, arith, append-nil, eq-eqb, ne_eqb, Global}
 use Rattle.std.specs.declared.sync.Arc.{Arc}
 use Rattle.std.specs.Ordering.{nat_cmp}
 use Rattle.std.specs.declared.cmp.Ordering.{Ordering}
-use Rattle.std.specs.declared.cmp.Ordering.TheVariants.{Less, Equal, Greater}
+use Rattle.std.specs.declared.cmp.Ordering.TheVariants.{Equal}
 use Rattle.std.specs.Option.{IsSome, option_map}
 use Rattle.std.specs.BTreeMap.{BTreeMap, get, is_at, Updates}
 use Rattle.std.proofs.lemmas.Bool.{cases_eq}
@@ -18,11 +18,11 @@ use Rattle.link_io.specs.declared.target.Key.TheVariants.{Index}
 use Rattle.flight_rows.specs.declared.row.Row.{Row}
 use Rattle.flight_rows.specs.declared.row.At.{At}
 use Rattle.flight_rows.specs.declared.row.At.TheVariants.{Here, Away, Came}
-use Rattle.flight_journal.specs.State.{Phase, flying, landed, gone, Flight, State, is_one_of, all_but, is_flying, is_landed, WaitsIn, Flies, IsKept, IsOpen, came_to, change}
+use Rattle.flight_journal.specs.State.{Flight, State, is_one_of, all_but, is_flying, Flies, IsKept, IsOpen, came_to, change}
 use Rattle.flight_journal.specs.Journal.{after, step, Allowed, IsSettled, AreAwaited}
 use Rattle.flight_rows.specs.Sight.{ArePlain}
 use Rattle.flight_journal.specs.Count.{begun_in}
-use Rattle.flight_rows.specs.Rows.{AtFits, RowFits, FlightFits, RowAt, RowsFit, KeysFit, Holds, Keeps, is_live, owed_by, owed_for, hand_of, hands_of}
+use Rattle.flight_rows.specs.Rows.{AtFits, RowFits, RowAt, RowsFit, Holds, Keeps, is_live, owed_by, hand_of, hands_of}
 use Rattle.flight_rows.specs.Changes.{Changes, Evicts}
 use Rattle.flight_rows.specs.Serves.{evictions}
 use Rattle.flight_rows.specs.Sight.{flat, hand_in}
@@ -32,7 +32,7 @@ use Rattle.flight_rows.proofs.StateLemmas.{none_plain, owed_change}
 use Rattle.flight_journal.proofs.ListLemmas.{get_changed, get_unchanged, length_change}
 use Rattle.std.proofs.lemmas.Option.{slice_get_within}
 use Rattle.flight_rows.proofs.RowLemmas.{rows_change, keys_same, keys_drop}
-use Rattle.flight_rows.proofs.EntryLemmas.{written, awaited_change, away_flies, row_there}
+use Rattle.flight_rows.proofs.EntryLemmas.{written, awaited_change, away_flies}
 use Rattle.flight_rows.proofs.TakeLemmas.{row_in_hand, flight_of}
 
 -- ---- the order

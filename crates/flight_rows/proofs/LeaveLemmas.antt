@@ -1,10 +1,10 @@
 -- A query leaves, and flights that nobody awaits are abandoned.
-use Rattle.std.proofs.Common.{◌≡◌, ◌≢◌, ◌⊎◌, ℕ, zero, suc, ◌+◌, ◌<◌, ◌≤◌, ◌==◌, ◌||◌, not, cond, if◌then◌else◌, Bool, true, false, true≢false, List, [], ◌∷◌, ◌++◌, length, map, filter, Option, Some, None, slice_get, slice_set, refl, sym, ap, ◌∙◌, subst, ⊎_elim, inl, inr, arith, append-nil, eq-eqb, ne_eqb, Global}
+use Rattle.std.proofs.Common.{◌≡◌, ◌≢◌, ◌⊎◌, ℕ, zero, suc, ◌+◌, ◌≤◌, ◌||◌, if◌then◌else◌, Bool, true, false, true≢false, List, [], ◌∷◌, ◌++◌, length, map, Option, Some, None, slice_get, slice_set, refl, sym, ap, ◌∙◌, subst, ⊎_elim, arith, append-nil, ne_eqb, Global}
 use Rattle.std.specs.declared.sync.Arc.{Arc}
 use Rattle.std.specs.Ordering.{nat_cmp}
 use Rattle.std.specs.declared.cmp.Ordering.{Ordering}
-use Rattle.std.specs.declared.cmp.Ordering.TheVariants.{Less, Equal, Greater}
-use Rattle.std.specs.Option.{IsSome, option_map}
+use Rattle.std.specs.declared.cmp.Ordering.TheVariants.{Equal}
+use Rattle.std.specs.Option.{option_map}
 use Rattle.std.specs.BTreeMap.{BTreeMap, get, is_at, Updates}
 use Rattle.std.proofs.lemmas.Bool.{cases_eq}
 use Rattle.std.proofs.lemmas.List.{length-map}
@@ -13,15 +13,15 @@ use Rattle.shard_cache.specs.Recency.{is_listed, total_of}
 use Rattle.link_io.specs.declared.target.Key.{Key}
 use Rattle.link_io.specs.declared.target.Target.{Target}
 use Rattle.flight_journal.specs.declared.entry.Entry.{Entry}
-use Rattle.flight_journal.specs.declared.entry.Entry.TheVariants.{Closed, Abandoned, Taken}
+use Rattle.flight_journal.specs.declared.entry.Entry.TheVariants.{Abandoned, Taken}
 use Rattle.flight_rows.specs.declared.row.Row.{Row}
 use Rattle.flight_rows.specs.declared.row.At.{At}
 use Rattle.flight_rows.specs.declared.row.At.TheVariants.{Here, Away, Came}
-use Rattle.flight_journal.specs.State.{Phase, flying, landed, gone, Flight, State, is_one_of, all_but, is_flying, is_landed, IsOpen, IsOwed, parted, ended, change, left_by}
-use Rattle.flight_journal.specs.Journal.{after, step, Allowed, IsSettled, AreAwaited, IsAlone, IsLeastAlone}
+use Rattle.flight_journal.specs.State.{flying, landed, Flight, State, is_one_of, all_but, is_flying, is_landed, IsOpen, IsOwed, parted, ended, left_by}
+use Rattle.flight_journal.specs.Journal.{after, step, Allowed, IsSettled, IsLeastAlone}
 use Rattle.flight_journal.specs.Count.{begun_in}
 use Rattle.flight_rows.specs.Sight.{ArePlain}
-use Rattle.flight_rows.specs.Rows.{AtFits, RowFits, FlightFits, RowAt, RowsFit, KeysFit, Holds, Keeps, is_live, owed_by, owed_for, open_among, needed}
+use Rattle.flight_rows.specs.Rows.{AtFits, FlightFits, RowAt, KeysFit, Holds, Keeps, is_live, owed_by, owed_for, open_among}
 use Rattle.flight_rows.specs.Changes.{Parts, IsValueAt}
 use Rattle.flight_rows.specs.Rows.{hand_of, hands_of}
 use Rattle.flight_rows.specs.Sight.{flat, hand_in}
@@ -118,7 +118,7 @@ module _ {L V : Type 0} (Aimed : ℕ → Target → Packed L → Type 0) (Came_s
         fits = let fits = h.fits in omega arith;
       } in (
         written Aimed Came_so cmp keep start dialed journal e room rows' keys order recent opened begun owed' dialed keeps.legal keeps.dialed_so keeps.plain (sym (ap (λ l. dialed ++ l) none ∙ append-nil dialed)) (subst ArePlain (sym none) none_plain) may
-        (subst (λ (z : State). Holds Aimed Came_so cmp z (length journal + 1) room rows' keys order recent opened begun owed') (sym left) all),
+            (subst (λ (z : State). Holds Aimed Came_so cmp z (length journal + 1) room rows' keys order recent opened begun owed') (sym left) all),
         subst (λ (z : State). total_of z.kept ≤ keep) (sym (after_push journal e ∙ left)) settled.within,
       )
 

@@ -1,5 +1,5 @@
 -- Rows by number.
-use Rattle.std.proofs.Common.{◌≡◌, ◌≢◌, ◌⊎◌, ℕ, zero, suc, ◌+◌, ◌<◌, ◌≤◌, Bool, true, false, true≢false, cond, List, [], ◌∷◌, ◌++◌, length, map, Option, Some, None, slice_get, refl, sym, ap, ◌∙◌, subst, ⊎_elim, arith}
+use Rattle.std.proofs.Common.{◌≡◌, ◌≢◌, ℕ, Bool, true, false, true≢false, cond, Option, Some, None, slice_get, refl, sym, ap, ◌∙◌, subst, ⊎_elim}
 use Rattle.std.specs.Ordering.{nat_cmp, is_eq}
 use Rattle.std.specs.declared.cmp.Ordering.TheVariants.{Less, Equal, Greater}
 use Rattle.std.specs.BTreeMap.{BTreeMap, get, is_at, Updates}
@@ -9,7 +9,7 @@ use Rattle.shard_cache.specs.Recency.{is_listed}
 use Rattle.link_io.specs.declared.target.Key.{Key}
 use Rattle.link_io.specs.declared.target.Target.{Target}
 use Rattle.flight_rows.specs.declared.row.Row.{Row}
-use Rattle.flight_journal.specs.State.{Phase, Flight, State}
+use Rattle.flight_journal.specs.State.{Flight, State}
 use Rattle.std.specs.declared.cmp.Ordering.{Ordering}
 use Rattle.flight_rows.specs.Rows.{RowAt, RowsFit, KeysFit, is_live}
 

@@ -1,5 +1,5 @@
 -- Entries that are still to be written.
-use Rattle.std.proofs.Common.{◌≡◌, ℕ, zero, suc, ◌+◌, ◌-◌, ◌^◌, ◌<◌, ◌≤◌, min, List, [], ◌∷◌, ◌++◌, subst, Option, Some, None, slice_get, ap, arith}
+use Rattle.std.proofs.Common.{◌≡◌, ℕ, zero, suc, ◌+◌, ◌-◌, ◌^◌, ◌<◌, ◌≤◌, min, List, [], ◌∷◌, ◌++◌, subst, Some, slice_get, ap, arith}
 use Rattle.link_io.specs.Target.{IsPlain}
 use Rattle.link_io.specs.declared.target.Target.{Target}
 use Rattle.flight_journal.specs.State.{change, Flight}

@@ -1,13 +1,10 @@
 -- Taking a parcel and putting it back.
-use Rattle.std.proofs.Common.{◌≡◌, ◌≢◌, ◌⊎◌, ℕ, zero, suc, ◌+◌, ◌<◌, ◌≤◌, Bool, true, false, true≢false, ◌||◌, if◌then◌else◌, List, [], ◌∷◌, ◌++◌, length, Option, Some, None, slice_get, refl, sym, ap, ◌∙◌, subst, ⊎_elim, arith, append-nil}
+use Rattle.std.proofs.Common.{◌≡◌, ◌≢◌, ℕ, ◌+◌, ◌≤◌, true, false, true≢false, ◌||◌, if◌then◌else◌, List, [], ◌∷◌, ◌++◌, length, Option, Some, None, slice_get, refl, sym, ap, ◌∙◌, subst, arith, append-nil}
 use Rattle.std.specs.Ordering.{nat_cmp}
 use Rattle.std.specs.Option.{IsSome, option_map}
-use Rattle.std.specs.Map.{lookup, set_value}
 use Rattle.std.specs.BTreeMap.{BTreeMap, get, is_at, Updates}
-use Rattle.std.specs.declared.cmp.Ordering.TheVariants.{Less, Equal, Greater}
-use Rattle.std.proofs.lemmas.Bool.{cases_eq}
+use Rattle.std.specs.declared.cmp.Ordering.TheVariants.{Equal}
 use Rattle.link_io.specs.Parcel.{Packed}
-use Rattle.link_io.specs.Origin.{Origin}
 use Rattle.shard_cache.specs.Recency.{is_listed}
 use Rattle.link_io.specs.declared.target.Target.{Target}
 use Rattle.flight_journal.specs.declared.entry.Entry.{Entry}
@@ -16,16 +13,16 @@ use Rattle.flight_rows.specs.declared.row.At.{At}
 use Rattle.flight_rows.specs.declared.row.At.TheVariants.{Here, Away, Came}
 use Rattle.flight_rows.specs.declared.row.Place.{Place}
 use Rattle.flight_rows.specs.declared.row.Place.TheVariants.{Stranger, Waits, Ready, Owed}
-use Rattle.flight_journal.specs.State.{Phase, flying, landed, gone, Flight, State, is_one_of, is_flying, is_landed, WaitsIn, IsOwed, Flies, IsOpen, ended}
+use Rattle.flight_journal.specs.State.{flying, landed, Flight, State, is_one_of, is_flying, is_landed, WaitsIn, IsOwed, Flies, IsOpen, ended}
 use Rattle.flight_journal.specs.Journal.{after, step, IsSettled}
 use Rattle.flight_journal.specs.declared.entry.Entry.TheVariants.{Lost}
 use Rattle.flight_rows.specs.Sight.{Sight}
 use Rattle.std.specs.declared.cmp.Ordering.{Ordering}
 use Rattle.link_io.specs.declared.target.Key.{Key}
-use Rattle.flight_rows.specs.Rows.{Keeps, Holds, owed_by, owed_for, is_live, AtFits, RowFits, FlightFits, RowAt, RowsFit, hand_of, hands_of}
+use Rattle.flight_rows.specs.Rows.{Keeps, Holds, owed_by, is_live, AtFits, RowFits, FlightFits, RowAt, RowsFit, hand_of, hands_of}
 use Rattle.flight_rows.specs.Changes.{Changes, Takes}
 use Rattle.flight_rows.specs.Places.{IsPlace}
-use Rattle.flight_rows.specs.Serves.{IsHere, IsAway, IsStranger, HandMoves}
+use Rattle.flight_rows.specs.Serves.{IsHere, IsStranger}
 use Rattle.flight_rows.specs.Sight.{flat, hand_in}
 use Rattle.flight_rows.specs.Places.{Finds}
 use Rattle.flight_rows.proofs.EntryLemmas.{away_flies, here_flies, came_landed, stays, written, awaited_change}

@@ -1,6 +1,5 @@
 -- What is always so of the flights of a table.
-use Rattle.std.proofs.Common.{◌≡◌, ℕ, List, Option, Some, slice_get, refl}
-use Rattle.std.specs.Ordering.{nat_cmp}
+use Rattle.std.proofs.Common.{◌≡◌, ℕ, List, Option, Some}
 use Rattle.std.specs.declared.cmp.Ordering.{Ordering}
 use Rattle.std.specs.BTreeMap.{BTreeMap}
 use Rattle.shard_cache.specs.Recency.{is_listed}
@@ -14,7 +13,7 @@ use Rattle.flight_journal.specs.Journal.{after, IsSettled}
 use Rattle.flight_journal.proofs.LegalLemmas.{one_key_after}
 use Rattle.flight_rows.specs.declared.row.Row.{Row}
 use Rattle.flight_rows.specs.Rows.{Keeps, hands_of}
-use Rattle.flight_rows.specs.Sight.{Sight, IsSightSound, hand_in}
+use Rattle.flight_rows.specs.Sight.{IsSightSound, hand_in}
 use Rattle.flight_rows.proofs.EntryLemmas.{away_flies}
 use Rattle.flight_rows.proofs.TakeLemmas.{row_in_hand, flight_of}
 

@@ -1,5 +1,5 @@
 -- What a call changes of the rows.
-use Rattle.std.specs.Prelude.{◌≡◌, ◌≢◌, ◌⊎◌, ℕ, false, [], ◌∷◌, List, Option, Some, None}
+use Rattle.std.specs.Prelude.{◌≡◌, ◌≢◌, ◌⊎◌, ℕ, false, [], ◌∷◌, Option, Some, None}
 use Rattle.std.specs.declared.sync.Arc.{Arc}
 use Rattle.std.specs.declared.alloc.Global.{Global}
 use Rattle.std.specs.Ordering.{nat_cmp}
@@ -62,5 +62,6 @@ IsLone {L} {V} r = (r.queries.items ≡ []) × ((p : Packed L) × (r.at ≡ Here
 abbrev pub IsValueAt : {L V : Type 0} → ℕ → BTreeMap ℕ (Row L V) → V → Type 0
 IsValueAt {L} {V} f rows x = (r : Row L V) × (get nat_cmp rows f ≡ Some r) × ((v : Arc V Global) × (r.at ≡ Came v) × (x ≡ v.value))
 
+-- the flight has landed
 abbrev pub HasCome : {L V : Type 0} → ℕ → BTreeMap ℕ (Row L V) → Type 0
 HasCome {L} {V} f rows = (r : Row L V) × (get nat_cmp rows f ≡ Some r) × ((v : Arc V Global) × (r.at ≡ Came v))

@@ -1,5 +1,5 @@
 -- What the table holds of the flights, and that it fits the journal.
-use Rattle.std.specs.Prelude.{◌≡◌, ◌⊎◌, ℕ, ◌+◌, ◌==◌, ◌||◌, ◌<◌, ◌≤◌, Bool, true, false, if◌then◌else◌, List, [], ◌∷◌, ◌++◌, length, map, slice_get, Option, Some, None}
+use Rattle.std.specs.Prelude.{◌≡◌, ℕ, ◌+◌, ◌||◌, ◌≤◌, Bool, true, false, if◌then◌else◌, List, [], ◌∷◌, ◌++◌, length, slice_get, Option, Some, None}
 use Rattle.std.specs.Ordering.{nat_cmp}
 use Rattle.flight_rows.specs.Sight.{ArePlain}
 use Rattle.std.specs.BTreeMap.{BTreeMap, get}
@@ -14,10 +14,9 @@ use Rattle.flight_rows.specs.declared.row.Row.{Row}
 use Rattle.flight_rows.specs.declared.row.At.{At}
 use Rattle.flight_rows.specs.declared.row.At.TheVariants.{Here, Away, Came}
 use Rattle.flight_journal.specs.declared.entry.Entry.{Entry}
-use Rattle.flight_journal.specs.declared.entry.Entry.TheVariants.{Opened, Began, Joined, Hit, Taken, Landed, Lost, Cancelled, Closed, Evicted, Refreshed, Abandoned}
 use Rattle.std.specs.declared.cmp.Ordering.{Ordering}
-use Rattle.flight_journal.specs.State.{Phase, flying, landed, gone, Flight, State, is_one_of, is_flying, is_landed}
-use Rattle.flight_journal.specs.Journal.{after, IsSettled, Legal}
+use Rattle.flight_journal.specs.State.{flying, landed, Flight, State, is_one_of, is_flying}
+use Rattle.flight_journal.specs.Journal.{after, Legal}
 use Rattle.flight_journal.specs.Count.{begun_in}
 
 -- a parcel that stands in the table: it is for the flight's target, its link has the flight's number and is from the
@@ -43,6 +42,7 @@ hand_of (Here p) = None
 hand_of (Away q) = Some q
 hand_of (Came v) = None
 
+-- by flight, which query has its parcel in hand
 abbrev pub hands_of : {L V : Type 0} → List (ℕ × Row L V) → List (ℕ × Option ℕ)
 hands_of [] = []
 hands_of (e ∷ es) = (e.0, hand_of e.1.at) ∷ hands_of es
@@ -55,10 +55,12 @@ is_live kept x = is_flying x.phase || kept
 abbrev pub owed_by : Flight → ℕ
 owed_by x = length x.queries + (if is_flying x.phase then 1 else 0)
 
+-- the same for all of these
 abbrev pub owed_for : List Flight → ℕ
 owed_for [] = 0
 owed_for (x ∷ xs) = owed_by x + owed_for xs
 
+-- how many queries are open
 abbrev pub open_among : List Bool → ℕ
 open_among [] = 0
 open_among (b ∷ bs) = (if b then 1 else 0) + open_among bs

@@ -54,7 +54,8 @@ impl<D: Dial, V: Landed> Flights<D, V> {
         requires plain { IsPlain target.now }
         requires apart { (f : ℕ) (t : Target) → WaitsIn (after self.old.journal) query f →
             Flies (after self.old.journal) f t → t.key ≢ target.now.key }
-        ensures ok { IfOk result (Asks (Comes V.key V.size V.number V.from (length self.old.start) self.old.origin)
+        ensures ok { IfOk result (Asks
+            (Comes V.key V.size V.number V.from (length self.old.start) self.old.origin)
             query target.now self.old self.new) }
         ensures err { OnErr result (self.new ≡ self.old) }
     {
@@ -86,7 +87,10 @@ impl<D: Dial, V: Landed> Flights<D, V> {
 
     // A flight that a key leads to.
     fn found(&self, key: &Key, f: u64) -> Found
-        requires { (is_listed f (after self.now.journal).kept ≡ true → FindsKey key.now (after self.now.journal) (Kept f)) × (is_listed f (after self.now.journal).kept ≡ false → FindsKey key.now (after self.now.journal) (Flying f)) }
+        requires { (is_listed f (after self.now.journal).kept ≡ true →
+                FindsKey key.now (after self.now.journal) (Kept f))
+            × (is_listed f (after self.now.journal).kept ≡ false →
+                FindsKey key.now (after self.now.journal) (Flying f)) }
         ensures { FindsKey key.now (after self.now.journal) result }
     {
         if self.is_kept(f) {
@@ -110,8 +114,10 @@ impl<D: Dial, V: Landed> Flights<D, V> {
     fn hit(&mut self, query: u64, f: u64) -> Result<Arc<V>, AllocError>
         requires open { IsOpen (after self.old.journal) query }
         requires kept { (t : Target) × IsKept (after self.old.journal) f t }
-        ensures ok { IfOk result (λ v. Writes (Hit query f ∷ []) self.old self.new × HandsStay self.old self.new
-            × HasKept (Comes V.key V.size V.number V.from (length self.old.start) self.old.origin f) f self.old v.value) }
+        ensures ok { IfOk result (λ v. Writes (Hit query f ∷ []) self.old self.new
+            × HandsStay self.old self.new
+            × HasKept (Comes V.key V.size V.number V.from (length self.old.start) self.old.origin f)
+                f self.old v.value) }
         ensures err { OnErr result (self.new ≡ self.old) }
     {
         self.journal.reserve(self.owed.saturating_add(1))?;
@@ -126,7 +132,8 @@ impl<D: Dial, V: Landed> Flights<D, V> {
         requires open { IsOpen (after self.old.journal) query }
         requires flies { (t : Target) × Flies (after self.old.journal) f t }
         requires apart { ¬ WaitsIn (after self.old.journal) query f }
-        ensures ok { OnOk result (self.new ≡ record self.old { journal = self.old.journal ++ Joined query f ∷ [] }) }
+        ensures ok { OnOk result (self.new ≡
+            record self.old { journal = self.old.journal ++ Joined query f ∷ [] }) }
         ensures err { OnErr result (self.new ≡ self.old) }
     {
         self.journal.reserve(self.owed.saturating_add(2))?;

@@ -22,7 +22,8 @@ impl<D: Dial, V: Landed> Flights<D, V> {
         requires open { IsOpen (after self.old.journal) query }
         requires idle { (f : ℕ) → hand_in self.old.hands f ≢ Some query }
         requires rising { IsStrictlyIncreasing flights.now }
-        requires awaited { (f : ℕ) → WaitsIn (after self.old.journal) query f ⊎ IsOwed (after self.old.journal) query f →
+        requires awaited { (f : ℕ) →
+            WaitsIn (after self.old.journal) query f ⊎ IsOwed (after self.old.journal) query f →
             is_one_of f flights.now ≡ true }
         ensures writes { Leaves (Closed query) self.old self.new }
         ensures hands { HandsStay self.old self.new }
@@ -35,7 +36,8 @@ impl<D: Dial, V: Landed> Flights<D, V> {
         requires open { IsOpen (after self.old.journal) query }
         requires idle { (f : ℕ) → hand_in self.old.hands f ≢ Some query }
         requires rising { IsStrictlyIncreasing flights.now }
-        requires awaited { (f : ℕ) → WaitsIn (after self.old.journal) query f ⊎ IsOwed (after self.old.journal) query f →
+        requires awaited { (f : ℕ) →
+            WaitsIn (after self.old.journal) query f ⊎ IsOwed (after self.old.journal) query f →
             is_one_of f flights.now ≡ true }
         ensures writes { Leaves (Cancelled query) self.old self.new }
         ensures hands { HandsStay self.old self.new }
@@ -49,7 +51,8 @@ impl<D: Dial, V: Landed> Flights<D, V> {
         requires open { IsOpen (after self.old.journal) query }
         requires idle { (f : ℕ) → hand_in self.old.hands f ≢ Some query }
         requires rising { IsStrictlyIncreasing flights.now }
-        requires awaited { (f : ℕ) → WaitsIn (after self.old.journal) query f ⊎ IsOwed (after self.old.journal) query f →
+        requires awaited { (f : ℕ) →
+            WaitsIn (after self.old.journal) query f ⊎ IsOwed (after self.old.journal) query f →
             is_one_of f flights.now ≡ true }
         ensures writes { Leaves entry self.old self.new }
         ensures hands { HandsStay self.old self.new }

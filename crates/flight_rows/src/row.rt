@@ -45,8 +45,12 @@ pub(crate) fn push_query<L: Conn, V: Landed>(
     query: u64,
 ) -> Result<(), AllocError>
     requires { IsSome (get nat_cmp rows.old f) }
-    ensures ok { OnOk result (Changes f (λ r s. (s.target ≡ r.target) × (s.queries.items ≡ r.queries.items ++ query ∷ []) × (s.at ≡ r.at) × (s.kept ≡ r.kept)) rows.old rows.new) }
-    ensures err { OnErr result (Changes f (λ r s. (s.target ≡ r.target) × (s.queries.items ≡ r.queries.items) × (s.at ≡ r.at) × (s.kept ≡ r.kept)) rows.old rows.new) }
+    ensures ok { OnOk result (Changes f (λ r s. (s.target ≡ r.target)
+        × (s.queries.items ≡ r.queries.items ++ query ∷ []) × (s.at ≡ r.at) × (s.kept ≡ r.kept))
+        rows.old rows.new) }
+    ensures err { OnErr result (Changes f (λ r s. (s.target ≡ r.target)
+        × (s.queries.items ≡ r.queries.items) × (s.at ≡ r.at) × (s.kept ≡ r.kept))
+        rows.old rows.new) }
 {
     let Some(row) = rows.get_mut(&f) else {
         unreachable!()
@@ -62,7 +66,9 @@ pub(crate) fn take_parcel<L: Conn, V: Landed>(
     query: u64,
 ) -> Option<Parcel<L>>
     requires { IsSome (get nat_cmp rows.old f) }
-    ensures { Changes f (λ r s. (s.target ≡ r.target) × (s.queries ≡ r.queries) × (s.kept ≡ r.kept) × Takes query r.at s.at result) rows.old rows.new }
+    ensures { Changes f (λ r s. (s.target ≡ r.target) × (s.queries ≡ r.queries)
+        × (s.kept ≡ r.kept) × Takes query r.at s.at result)
+        rows.old rows.new }
 {
     let Some(row) = rows.get_mut(&f) else {
         unreachable!()
@@ -106,7 +112,8 @@ pub(crate) fn add_both<L: Conn, V: Landed>(
 ) -> Result<(), AllocError>
     requires row { get nat_cmp rows.old f ≡ None }
     ensures rows { OnOk result (rows.new.entries ≡ insert_entry nat_cmp rows.old.entries f row) }
-    ensures keys { OnOk result (keys.new.entries ≡ insert_entry ⟦<Key as Ord>⟧.cmp keys.old.entries key f) }
+    ensures keys { OnOk result (keys.new.entries ≡
+        insert_entry ⟦<Key as Ord>⟧.cmp keys.old.entries key f) }
     ensures rows_at { OnOk result (Updates nat_cmp rows.old rows.new f (Some row)) }
     ensures keys_at { OnOk result (Updates ⟦<Key as Ord>⟧.cmp keys.old keys.new key (Some f)) }
     ensures rows_stay { OnErr result (rows.new.entries ≡ rows.old.entries) }
@@ -128,7 +135,8 @@ pub(crate) fn drop_both<L: Conn, V: Landed>(
     key: &Key,
 )
     ensures rows { rows.new.entries ≡ remove_entry (is_at (nat_cmp f)) rows.old.entries }
-    ensures keys { keys.new.entries ≡ remove_entry (is_at (⟦<Key as Ord>⟧.cmp key.now)) keys.old.entries }
+    ensures keys { keys.new.entries ≡
+        remove_entry (is_at (⟦<Key as Ord>⟧.cmp key.now)) keys.old.entries }
 {
     rows.remove(&f);
     keys.remove(key);
@@ -194,7 +202,9 @@ pub(crate) fn end_row<L: Conn, V: Landed>(
     f: u64,
 )
     requires { IsSome (get nat_cmp rows.old f) }
-    ensures { (r : _) × (get nat_cmp rows.old f ≡ Some r) × Updates nat_cmp rows.old rows.new f None × Updates ⟦<Key as Ord>⟧.cmp keys.old keys.new r.target.key None }
+    ensures { (r : _) × (get nat_cmp rows.old f ≡ Some r)
+        × Updates nat_cmp rows.old rows.new f None
+        × Updates ⟦<Key as Ord>⟧.cmp keys.old keys.new r.target.key None }
 {
     let Some(row) = rows.remove(&f) else {
         unreachable!()
@@ -209,7 +219,9 @@ pub(crate) fn evict_row<L: Conn, V: Landed>(
     f: u64,
 )
     requires { IsSome (get nat_cmp rows.old f) }
-    ensures { Evicts f rows.old rows.new × ((r : _) × (get nat_cmp rows.old f ≡ Some r) × Updates ⟦<Key as Ord>⟧.cmp keys.old keys.new r.target.key None) }
+    ensures { Evicts f rows.old rows.new
+        × ((r : _) × (get nat_cmp rows.old f ≡ Some r)
+        × Updates ⟦<Key as Ord>⟧.cmp keys.old keys.new r.target.key None) }
 {
     let Some(row) = rows.get_mut(&f) else {
         unreachable!()
@@ -228,7 +240,10 @@ pub(crate) fn land_row<L: Conn, V: Landed>(
     value: Arc<V>,
 )
     requires { IsSome (get nat_cmp rows.old f) }
-    ensures { Changes f (λ r s. (s.target ≡ r.target) × (s.queries.items ≡ all_but query r.queries.items) × (s.at ≡ At.Came value) × (s.kept ≡ true)) rows.old rows.new }
+    ensures { Changes f (λ r s. (s.target ≡ r.target)
+        × (s.queries.items ≡ all_but query r.queries.items)
+        × (s.at ≡ At.Came value) × (s.kept ≡ true))
+        rows.old rows.new }
 {
     let Some(row) = rows.get_mut(&f) else {
         unreachable!()
@@ -279,7 +294,8 @@ pub(crate) fn part_each<L: Conn, V: Landed>(
 )
     requires rising { IsStrictlyIncreasing flights.now }
     ensures parted { (n : ℕ) → n < length flights.now →
-        Parts query (get nat_cmp rows.old (slice_index flights.now n)) (get nat_cmp rows.new (slice_index flights.now n)) }
+        Parts query (get nat_cmp rows.old (slice_index flights.now n))
+            (get nat_cmp rows.new (slice_index flights.now n)) }
     ensures others { (g : ℕ) → ((n : ℕ) → n < length flights.now → slice_index flights.now n ≢ g) →
         get nat_cmp rows.new g ≡ get nat_cmp rows.old g }
 {

@@ -90,7 +90,8 @@ impl<D: Dial, V: Landed> Flights<D, V> {
     ///
     /// `AllocError` where there is no memory for its entries.
     pub fn enter(&mut self) -> Result<u64, AllocError>
-        ensures ok { IfOk result (λ q. self.new ≡ record self.old { journal = self.old.journal ++ Opened q ∷ [] }) }
+        ensures ok { IfOk result (λ q. self.new ≡
+            record self.old { journal = self.old.journal ++ Opened q ∷ [] }) }
         ensures number { IfOk result (λ q. q ≡ length (after self.old.journal).live) }
         ensures err { OnErr result (self.new ≡ self.old) }
     {

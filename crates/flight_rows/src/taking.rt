@@ -18,7 +18,10 @@ impl<D: Dial, V: Landed> Flights<D, V> {
     /// The parcel of a flight, or its value.
     pub fn take(&mut self, query: u64, f: u64) -> Drive<D::Link, V>
         requires open { IsOpen (after self.old.journal) query }
-        ensures { Serves (IsAimed D.Link.facts D.Link.from (length self.old.start) self.old.origin f) (Comes V.key V.size V.number V.from (length self.old.start) self.old.origin f) query f self.old self.new result }
+        ensures { Serves
+            (IsAimed D.Link.facts D.Link.from (length self.old.start) self.old.origin f)
+            (Comes V.key V.size V.number V.from (length self.old.start) self.old.origin f)
+            query f self.old self.new result }
     {
         match self.place(query, f) {
             Place::Stranger => Drive::Again,
@@ -54,7 +57,8 @@ impl<D: Dial, V: Landed> Flights<D, V> {
     /// The parcel goes back to its flight.
     pub fn put_back(&mut self, query: u64, f: u64, parcel: Parcel<D::Link>)
         requires held { hand_in self.old.hands f ≡ Some query }
-        requires aimed { (t : Target) → Flies (after self.old.journal) f t → IsAimed D.Link.facts D.Link.from (length self.old.start) self.old.origin f t parcel }
+        requires aimed { (t : Target) → Flies (after self.old.journal) f t →
+            IsAimed D.Link.facts D.Link.from (length self.old.start) self.old.origin f t parcel }
         ensures writes { Writes [] self.old self.new }
         ensures hand { HandMoves f None self.old self.new }
     {
@@ -64,7 +68,10 @@ impl<D: Dial, V: Landed> Flights<D, V> {
     // The parcel, which stands here.
     fn take_here(&mut self, query: u64, f: u64) -> Drive<D::Link, V>
         requires { IsHere query f self.old }
-        ensures { Serves (IsAimed D.Link.facts D.Link.from (length self.old.start) self.old.origin f) (Comes V.key V.size V.number V.from (length self.old.start) self.old.origin f) query f self.old self.new result }
+        ensures { Serves
+            (IsAimed D.Link.facts D.Link.from (length self.old.start) self.old.origin f)
+            (Comes V.key V.size V.number V.from (length self.old.start) self.old.origin f)
+            query f self.old self.new result }
     {
         match take_parcel(&mut self.rows, f, query) {
             Some(parcel) => Drive::Parcel(parcel),
@@ -76,7 +83,10 @@ impl<D: Dial, V: Landed> Flights<D, V> {
     fn take_value(&mut self, query: u64, f: u64) -> Drive<D::Link, V>
         requires open { IsOpen (after self.old.journal) query }
         requires owed { IsOwed (after self.old.journal) query f }
-        ensures { Serves (IsAimed D.Link.facts D.Link.from (length self.old.start) self.old.origin f) (Comes V.key V.size V.number V.from (length self.old.start) self.old.origin f) query f self.old self.new result }
+        ensures { Serves
+            (IsAimed D.Link.facts D.Link.from (length self.old.start) self.old.origin f)
+            (Comes V.key V.size V.number V.from (length self.old.start) self.old.origin f)
+            query f self.old self.new result }
     {
         let Ok(value) = copy_value(&self.rows, f) else {
             return Drive::Memory;

@@ -1,4 +1,4 @@
-use Rattle.std.proofs.Common.{◌≡◌, Option, Some, sym, ◌∙◌, subst}
+use Rattle.std.proofs.Common.{sym, ◌∙◌, subst}
 use Rattle.flight_rows.specs.Changes.{IsLone}
 use Rattle.flight_rows.proofs.WriteLemmas.{one_some}
 use Rattle.flight_rows.proofs.row.is_alone.Goals as goal

@@ -1,4 +1,4 @@
-use Rattle.std.proofs.Common.{◌≡◌, Bool, true, false, sym, ◌∙◌}
+use Rattle.std.proofs.Common.{sym, ◌∙◌}
 use Rattle.flight_rows.proofs.WriteLemmas.{no_items, empty_is}
 use Rattle.flight_rows.proofs.row.Row.is_lone.Goals as goal
 

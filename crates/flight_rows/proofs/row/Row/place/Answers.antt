@@ -1,4 +1,4 @@
-use Rattle.std.proofs.Common.{◌≡◌, sym, ap, ◌∙◌}
+use Rattle.std.proofs.Common.{sym, ap, ◌∙◌}
 use Rattle.flight_journal.specs.State.{is_one_of}
 use Rattle.flight_rows.proofs.row.Row.place.Goals as goal
 

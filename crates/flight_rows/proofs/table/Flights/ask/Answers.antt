@@ -1,5 +1,4 @@
-use Rattle.std.proofs.Common.{◌≡◌, [], ◌∷◌, List, ◌++◌, refl, sym, ap, ◌∙◌, append-nil}
-use Rattle.link_io.specs.declared.target.Target.{Target}
+use Rattle.std.proofs.Common.{sym, ap, ◌∙◌, append-nil}
 use Rattle.flight_rows.specs.Sight.{Sight, hand_in}
 use Rattle.flight_rows.proofs.table.Flights.ask.Goals as goal
 

@@ -1,4 +1,4 @@
-use Rattle.std.proofs.Common.{◌≡◌, ◌+◌, ◌≤◌, length, ap, ◌∙◌, arith}
+use Rattle.std.proofs.Common.{length, ap, ◌∙◌}
 use Rattle.flight_journal.specs.Journal.{after}
 use Rattle.flight_rows.specs.Sight.{Sight}
 use Rattle.flight_rows.proofs.StateLemmas.{room_for_all}

@@ -1,4 +1,4 @@
-use Rattle.std.proofs.Common.{◌≡◌, sym, subst}
+use Rattle.std.proofs.Common.{sym, subst}
 use Rattle.flight_journal.specs.Journal.{after, IsFreeKey}
 use Rattle.flight_rows.specs.Sight.{Sight}
 use Rattle.flight_rows.proofs.HitLemmas.{key_free}

@@ -1,6 +1,5 @@
-use Rattle.std.proofs.Common.{◌≡◌, [], ◌∷◌, List, ◌++◌, ◌+◌, ◌-◌, ◌≤◌, refl, sym, ap, ◌∙◌, subst, append-nil, arith}
+use Rattle.std.proofs.Common.{[], ◌∷◌, ◌++◌, ◌-◌, sym, ap, ◌∙◌, subst, append-nil, arith}
 use Rattle.shard_cache.specs.Recency.{Listing, is_listed}
-use Rattle.flight_journal.specs.declared.entry.Entry.{Entry}
 use Rattle.flight_journal.specs.declared.entry.Entry.TheVariants.{Refreshed}
 use Rattle.flight_journal.specs.State.{IsKept}
 use Rattle.flight_journal.specs.Journal.{after}

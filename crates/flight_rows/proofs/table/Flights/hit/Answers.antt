@@ -1,4 +1,4 @@
-use Rattle.std.proofs.Common.{◌≡◌, [], ◌∷◌, List, ◌++◌, ◌+◌, ◌≤◌, length, refl, sym, ap, ◌∙◌, subst, append-nil, arith}
+use Rattle.std.proofs.Common.{[], ◌∷◌, List, ◌++◌, length, sym, ap, ◌∙◌, subst, append-nil}
 use Rattle.shard_cache.specs.Recency.{Listing, is_listed}
 use Rattle.flight_journal.specs.declared.entry.Entry.{Entry}
 use Rattle.flight_journal.specs.declared.entry.Entry.TheVariants.{Hit}

@@ -1,5 +1,5 @@
 use Rattle.std.proofs.Common.{subst}
-use Rattle.flight_rows.specs.Sight.{Sight, IsSightSound}
+use Rattle.flight_rows.specs.Sight.{IsSightSound}
 use Rattle.flight_rows.proofs.TellLemmas.{sight_sound}
 use Rattle.flight_rows.proofs.table.Flights.into_parts.Goals as goal
 

@@ -1,4 +1,4 @@
-use Rattle.std.proofs.Common.{◌≡◌, Option, Some, None, sym, ◌∙◌}
+use Rattle.std.proofs.Common.{sym, ◌∙◌}
 use Rattle.flight_journal.specs.Journal.{after}
 use Rattle.flight_rows.proofs.TakeLemmas.{waits_not_owed, none_some}
 use Rattle.flight_rows.proofs.table.Flights.is_busy.Goals as goal

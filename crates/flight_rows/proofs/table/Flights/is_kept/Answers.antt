@@ -1,8 +1,8 @@
-use Rattle.std.proofs.Common.{◌≡◌, Some, None, sym, ap, ◌∙◌}
+use Rattle.std.proofs.Common.{Some, None, sym, ap, ◌∙◌}
 use Rattle.shard_cache.specs.Recency.{is_listed}
 use Rattle.flight_journal.specs.Journal.{after}
 use Rattle.flight_rows.specs.Sight.{Sight}
-use Rattle.flight_rows.proofs.HitLemmas.{row_kept, kept_row}
+use Rattle.flight_rows.proofs.HitLemmas.{kept_row}
 use Rattle.flight_rows.proofs.table.Flights.is_kept.Goals as goal
 
 pub returns-in-Some : goal.returns-in-Some

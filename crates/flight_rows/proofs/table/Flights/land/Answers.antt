@@ -1,4 +1,4 @@
-use Rattle.std.proofs.Common.{◌≡◌, ℕ, Option, Some, None, length, sym, subst}
+use Rattle.std.proofs.Common.{ℕ, Option, length, sym, subst}
 use Rattle.flight_rows.specs.Rows.{Comes}
 use Rattle.flight_rows.proofs.table.Flights.land.Goals as goal
 

@@ -1,4 +1,4 @@
-use Rattle.std.proofs.Common.{◌≡◌, ℕ, [], ◌∷◌, List, ◌++◌, ◌+◌, ◌-◌, ◌<◌, ◌≤◌, Some, None, length, refl, sym, ap, ◌∙◌, subst, append-nil, append_assoc, arith}
+use Rattle.std.proofs.Common.{[], ◌∷◌, List, ◌++◌, ◌-◌, Some, None, length, refl, sym, ap, ◌∙◌, subst, append-nil, append_assoc, arith}
 use Rattle.shard_cache.specs.Recency.{Listing, is_listed}
 use Rattle.shard_cache.proofs.OrderLemmas.{room_for}
 use Rattle.link_io.specs.declared.target.Target.{Target}

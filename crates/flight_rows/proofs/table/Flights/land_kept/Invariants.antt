@@ -1,5 +1,4 @@
 use Rattle.std.proofs.Common.{◌≡◌, ◌++◌, List, ℕ, length}
-use Rattle.link_io.specs.declared.target.Key.{Key}
 use Rattle.link_io.specs.contracts.target.KeyOrd as key_order
 use Rattle.flight_journal.specs.Journal.{after, AreAwaited}
 use Rattle.flight_rows.specs.Rows.{Keeps, IsAimed, Comes, hands_of}

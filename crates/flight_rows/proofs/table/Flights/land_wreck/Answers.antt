@@ -1,7 +1,5 @@
-use Rattle.std.proofs.Common.{◌≡◌, [], ◌∷◌, List, ◌++◌, ◌+◌, ◌-◌, ◌≤◌, Some, None, length, refl, sym, ap, ◌∙◌, subst, append-nil, arith}
+use Rattle.std.proofs.Common.{[], ◌∷◌, ◌++◌, ◌-◌, None, length, refl, sym, ap, ◌∙◌, subst, append-nil, arith}
 use Rattle.std.specs.Option.{IsSome}
-use Rattle.link_io.specs.declared.target.Target.{Target}
-use Rattle.flight_journal.specs.declared.entry.Entry.{Entry}
 use Rattle.flight_journal.specs.declared.entry.Entry.TheVariants.{Landed}
 use Rattle.flight_journal.specs.State.{IsOpen, Flies}
 use Rattle.flight_journal.specs.Journal.{after}

@@ -1,5 +1,4 @@
-use Rattle.std.proofs.Common.{◌≡◌, ◌≢◌, ◌⊎◌, ℕ, [], ◌∷◌, List, ◌++◌, ◌+◌, ◌-◌, ◌<◌, ◌≤◌, Some, None, true, false, true≢false, length, slice_index, refl, sym, ap, ◌∙◌, subst, append-nil, append_assoc, arith}
-use Rattle.std.specs.Option.{IsSome}
+use Rattle.std.proofs.Common.{◌≡◌, ◌≢◌, ◌⊎◌, ℕ, [], ◌∷◌, List, ◌++◌, ◌-◌, Some, true, true≢false, slice_index, refl, sym, ap, ◌∙◌, subst, append-nil, append_assoc, arith}
 use Rattle.std.specs.Ordering.{nat_cmp}
 use Rattle.std.specs.BTreeMap.{get}
 use Rattle.shard_cache.specs.Recency.{Listing}
@@ -7,15 +6,13 @@ use Rattle.link_io.specs.declared.target.Target.{Target}
 use Rattle.flight_journal.specs.declared.entry.Entry.{Entry}
 use Rattle.flight_journal.specs.declared.entry.Entry.TheVariants.{Abandoned}
 use Rattle.flight_journal.specs.State.{State, IsOpen, WaitsIn, IsOwed, is_one_of}
-use Rattle.flight_journal.specs.Journal.{after, step, IsSettled, IsAlone}
-use Rattle.flight_journal.specs.Count.{begun_in}
+use Rattle.flight_journal.specs.Journal.{after, IsAlone}
 use Rattle.flight_journal.proofs.PushLemmas.{after_push}
 use Rattle.flight_rows.specs.Sight.{Sight, hand_in}
-use Rattle.flight_rows.specs.Serves.{IsLeaving, abandonments}
-use Rattle.flight_rows.specs.Rows.{hands_of, hand_of}
+use Rattle.flight_rows.specs.Serves.{abandonments}
+use Rattle.flight_rows.specs.Rows.{hands_of}
 use Rattle.flight_rows.proofs.LeaveLemmas.{leaves, abandons}
-use Rattle.flight_rows.proofs.AloneLemmas.{alone_row, row_alone, alone_was_awaited, alone_before, AloneFrom, least_alone, alone_further, none_alone, leaving_step, leaving_may, abandonments_push, leaving_begun, parts_all, no_row_away}
-use Rattle.flight_rows.proofs.EachLemmas.{one_at}
+use Rattle.flight_rows.proofs.AloneLemmas.{alone_row, row_alone, alone_before, least_alone, alone_further, none_alone, leaving_step, leaving_may, abandonments_push, leaving_begun, parts_all, no_row_away}
 use Rattle.flight_rows.proofs.GoneLemmas.{open_owed, lone_owed, first_alone, hands_left, hands_gone}
 use Rattle.flight_rows.proofs.table.Flights.leave.Goals as goal
 

@@ -1,4 +1,3 @@
-use Rattle.std.proofs.Common.{rules}
 use Rattle.flight_rows.proofs.EntryLemmas.{begins}
 use Rattle.flight_rows.proofs.table.Flights.new.Goals as goal
 

@@ -1,8 +1,8 @@
-use Rattle.std.proofs.Common.{◌≡◌, refl, sym, subst}
+use Rattle.std.proofs.Common.{refl, sym, subst}
 use Rattle.flight_rows.specs.Sight.{Sight}
 use Rattle.flight_rows.specs.Rows.{hands_of}
 use Rattle.flight_rows.specs.Places.{Finds}
-use Rattle.flight_rows.proofs.TakeLemmas.{finds_none, finds_some}
+use Rattle.flight_rows.proofs.TakeLemmas.{finds_some}
 use Rattle.flight_rows.proofs.table.Flights.place.Goals as goal
 
 pub returns-in-Some : goal.returns-in-Some

@@ -1,10 +1,10 @@
-use Rattle.std.proofs.Common.{◌≡◌, [], ◌++◌, Some, None, length, refl, sym, ap, ◌∙◌, subst, append-nil}
+use Rattle.std.proofs.Common.{None, length, sym, ap, ◌∙◌, subst}
 use Rattle.flight_rows.specs.Sight.{Sight}
 use Rattle.flight_rows.specs.Sight.{hand_in}
 use Rattle.flight_rows.specs.Rows.{IsAimed, hand_of}
 use Rattle.flight_journal.specs.State.{Flies}
 use Rattle.flight_journal.specs.Journal.{after}
-use Rattle.flight_rows.proofs.TakeLemmas.{row_in_hand, some_row, moves, back}
+use Rattle.flight_rows.proofs.TakeLemmas.{some_row, moves, back}
 use Rattle.flight_rows.proofs.table.Flights.put_back.Goals as goal
 
 pub put_at-requires : goal.put_at-requires

@@ -1,4 +1,4 @@
-use Rattle.std.proofs.Common.{◌≡◌, refl, sym, ◌∙◌, inr}
+use Rattle.std.proofs.Common.{refl, sym, ◌∙◌, inr}
 use Rattle.flight_journal.proofs.LegalLemmas.{kept_apart}
 use Rattle.flight_rows.proofs.table.Flights.refresh.Goals as goal
 

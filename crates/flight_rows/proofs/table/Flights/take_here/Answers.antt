@@ -1,4 +1,4 @@
-use Rattle.std.proofs.Common.{◌≡◌, [], ◌++◌, Some, None, length, refl, sym, ap, ◌∙◌, subst, append-nil}
+use Rattle.std.proofs.Common.{◌≡◌, Some, None, length, refl, sym, ap, ◌∙◌, subst, append-nil}
 use Rattle.link_io.specs.Parcel.{Packed}
 use Rattle.flight_rows.specs.Sight.{Sight}
 use Rattle.flight_rows.specs.Rows.{IsAimed, hand_of, hands_of}

@@ -1,6 +1,5 @@
-use Rattle.std.proofs.Common.{◌≡◌, [], ◌∷◌, List, ◌++◌, ◌+◌, ◌-◌, ◌<◌, ◌≤◌, Some, None, length, refl, sym, ap, ◌∙◌, subst, append-nil, arith}
+use Rattle.std.proofs.Common.{[], ◌∷◌, ◌++◌, ◌-◌, length, sym, ap, ◌∙◌, subst, append-nil, arith}
 use Rattle.flight_rows.specs.Sight.{Sight}
-use Rattle.flight_journal.specs.declared.entry.Entry.{Entry}
 use Rattle.flight_journal.specs.declared.entry.Entry.TheVariants.{Taken}
 use Rattle.flight_rows.specs.Serves.{HasLanded}
 use Rattle.flight_rows.specs.Sight.{hand_in}

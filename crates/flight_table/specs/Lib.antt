@@ -1,0 +1,4 @@
+pub mod Facts
+pub mod Knows
+pub use Rattle.flight_rows.specs.Sight
+pub use Rattle.flight_rows.specs.Serves
