@@ -1,6 +1,6 @@
 //! `Journal`, the entries in the order in which they were written.
 
-ghost use Rattle.std.specs.Prelude.{◌≡◌, ◌<◌, ◌≤◌, ◌+◌, ◌++◌, ◌∷◌, [], length, slice_get, OnOk, OnErr};
+ghost use Rattle.std.specs.Prelude.{◌≡◌, ◌<◌, ◌≤◌, ◌+◌, ◌^◌, ◌++◌, ◌∷◌, [], length, slice_get, OnOk, OnErr};
 ghost use Rattle.std.specs.Option.{option_copied};
 
 use crate::entry::Entry;
@@ -53,6 +53,7 @@ impl Journal {
         ensures entries { self.new.entries ≡ self.old.entries }
         ensures ok { OnOk result (length self.new.entries + more ≤ self.new.room) }
         ensures kept { self.old.room ≤ self.new.room }
+        ensures bound { OnOk result (self.new.room < 2 ^ 63) }
     {
         self.entries.reserve(more)
     }

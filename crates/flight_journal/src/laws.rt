@@ -126,8 +126,8 @@ pub fn worked_journals()
     ensures over { oldest_of (after two_landings).kept ≡ Some 1 }
     ensures kept { (after two_landings).kept ≡ (1, 6) ∷ [] }
     ensures none_kept { (after (two_landings ++ an_oversized_landing)).kept ≡ [] }
-    ensures asks { asks_from 1 nothing (two_landings ++ an_oversized_landing)
-        ≡ (index_at 2).key ∷ [] }
+    ensures asks { asks_from 1 nothing (two_landings ++ an_oversized_landing) ≡
+        (index_at 2).key ∷ [] }
     ensures calls { calls_of 1 (two_landings ++ an_oversized_landing) ≡ 3 }
     ensures joined { (after a_joined_flight).kept ≡ (1, 5) ∷ (0, 4) ∷ [] }
     ensures dials { begun_in a_joined_flight ≡ index_at 0 ∷ index_at 1 ∷ [] }

@@ -1,0 +1,12 @@
+pub mod StateLemmas
+pub mod RowLemmas
+pub mod WriteLemmas
+pub mod EntryLemmas
+pub mod TakeLemmas
+pub mod KeptLemmas
+pub mod LeaveLemmas
+pub mod TellLemmas
+pub mod HitLemmas
+pub mod EachLemmas
+pub mod AloneLemmas
+pub mod GoneLemmas

@@ -1,0 +1,7 @@
+use Rattle.std.proofs.Common.{subst}
+use Rattle.flight_rows.specs.Sight.{IsSightSound}
+use Rattle.flight_rows.proofs.TellLemmas.{sight_sound}
+use Rattle.flight_rows.proofs.table.Flights.tell.Goals as goal
+
+pub returns : goal.returns
+returns g c = subst IsSightSound c.self.view_is (sight_sound _ _ _ _ _ _ _ _ _ _ _ _ _ _ _ (g.D.Dial.origin c.self.inside.dial) c.self.invariant.0 c.self.invariant.1)

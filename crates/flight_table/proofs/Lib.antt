@@ -1,0 +1,2 @@
+pub mod KnowLemmas
+pub mod TellLemmas

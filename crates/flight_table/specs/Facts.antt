@@ -1,0 +1,22 @@
+-- What a pass and a door say. They are plain data that contracts alone see.
+use Rattle.std.specs.Prelude.{ℕ, Bool, List, Option}
+use Rattle.link_io.specs.Origin.{Origin}
+use Rattle.link_io.specs.declared.target.Key.{Key}
+use Rattle.link_io.specs.declared.target.Target.{Target}
+
+-- what a pass says of its query: how many entries name it, whether it is open, the keys that it asked for, how many flights
+-- it lost, the flights without a size that it landed or took, those that others lost while it awaited them, the flight whose
+-- parcel it has in hand, the flights that it awaits with their targets; and the length of the dialer's list at the start, and
+-- where connections are from
+pub record Facts : Type 0 where
+  pub query : ℕ
+  pub calls : ℕ
+  pub live : Bool
+  pub asks : List Key
+  pub losses : ℕ
+  pub wrecks : List ℕ
+  pub lost : List ℕ
+  pub hand : Option ℕ
+  pub awaits : List (ℕ × Target)
+  pub base : ℕ
+  pub origin : Origin

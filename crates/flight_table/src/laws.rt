@@ -1,0 +1,34 @@
+//! The law that carries what a pass says over the calls of others.
+
+ghost use Rattle.std.specs.Prelude.{◌≡◌, ◌≢◌, ◌++◌, ◌∷◌, [], ℕ, List, Option, Some, None, false};
+ghost use Rattle.std.specs.List.{list_any};
+ghost use Rattle.flight_journal.specs.declared.entry.Entry.{Entry};
+ghost use Rattle.flight_journal.specs.Journal.{after, Allowed, Legal};
+ghost use Rattle.flight_journal.specs.Count.{names};
+ghost use Rattle.flight_rows.specs.Sight.{Sight, IsSightSound, hand_in};
+ghost use Rattle.flight_rows.specs.Serves.{Writes, HandsStay, HandMoves};
+ghost use Rattle.flight_table.specs.Facts.{Facts};
+ghost use Rattle.flight_table.specs.Knows.{Knows};
+ghost use Rattle.flight_table.specs.Tells.{Tells, HoldsTheSame};
+
+/// Where what a pass says is so of a legal journal, it is so of the journal with an entry more, and of
+/// one with some entries more, that name another query, or none.
+pub fn what_a_pass_says_stays()
+    ensures one { (budget : ℕ) (journal : List Entry) (e : Entry) (p : Facts) →
+        Legal budget journal → Allowed budget (after journal) e → names p.query e ≡ false →
+        Knows journal p → Knows (journal ++ e ∷ []) p }
+    ensures some { (budget : ℕ) (journal written : List Entry) (p : Facts) →
+        Legal budget (journal ++ written) → list_any (names p.query) written ≡ false →
+        Knows journal p → Knows (journal ++ written) p }
+{}
+
+/// Where what a pass says is so of a table, it is so behind a call that writes entries of other queries
+/// alone and moves no parcel into its query's hand or out of it.
+pub fn what_a_pass_tells_stays()
+    ensures tells { (s t : Sight) (written : List Entry) (p : Facts) →
+        Writes written s t → IsSightSound t → list_any (names p.query) written ≡ false →
+        HoldsTheSame p.query s t → Tells s p → Tells t p }
+    ensures hands_stay { (q : ℕ) (s t : Sight) → HandsStay s t → HoldsTheSame q s t }
+    ensures hand_moves { (q f : ℕ) (hand : Option ℕ) (s t : Sight) →
+        HandMoves f hand s t → hand_in s.hands f ≢ Some q → hand ≢ Some q → HoldsTheSame q s t }
+{}
