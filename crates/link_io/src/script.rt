@@ -279,96 +279,94 @@ fn reply_in<'a>(replies: &'a [(HttpUrl, Vec<u8>)], url: &str) -> &'a [u8]
 #[cfg(test)]
 mod tests {
     use super::*;
-    use crate::parcel::Parcel;
     use crate::target::Key;
     use digest_gate::Digest;
     use std::test::Fail;
 
-    fn target(alloc: Global, text: &str) -> Result<Target, Fail> {
-        Ok(Target {
-            key: Key::Shard(Digest([0; 32])),
-            url: HttpUrl::read(alloc, text).ok().ok_or("it is an address")?,
-        })
+    fn url(alloc: Global) -> Result<HttpUrl, Fail> {
+        Ok(HttpUrl::read(alloc, "http://h/a").ok().ok_or("it is an address")?)
     }
 
     // A world with one reply of seven bytes, given by three at most.
     fn world(alloc: Global, script: &[ScriptLine]) -> Result<ScriptDial, Fail> {
         let mut replies = Vec::new(alloc);
-        replies.push((target(alloc, "http://h/a")?.url, b"1234567".to_vec(alloc)?))?;
+        replies.push((url(alloc)?, b"1234567".to_vec(alloc)?))?;
         Ok(ScriptDial::new(alloc, replies, 3, script.to_vec(alloc)?))
     }
 
-    // A parcel over the next connection of a world.
-    fn parcel(
-        alloc: Global,
-        dial: &mut ScriptDial,
-        text: &str,
-    ) -> Result<Parcel<ScriptConn>, Fail> {
-        let target = target(alloc, text)?;
-        let link = dial.dial(alloc, &target)?;
-        Ok(Parcel::new(alloc, target, link))
+    // The next connection of a world to its reply.
+    fn link(alloc: Global, dial: &mut ScriptDial) -> Result<ScriptConn, Fail> {
+        let target = Target {
+            key: Key::Shard(Digest([0; 32])),
+            url: url(alloc)?,
+        };
+        Ok(dial.dial(alloc, &target)?)
     }
 
-    fn sends(parcel: &mut Parcel<ScriptConn>) -> Option<Sent> {
-        if parcel.broken() {
-            return None;
-        }
-        Some(parcel.send(b"GET"))
+    fn send(link: &mut ScriptConn) -> Sent {
+        link.send(b"GET")
     }
 
-    fn steps(parcel: &mut Parcel<ScriptConn>) -> Result<Option<Step>, Fail> {
-        if parcel.broken() {
-            return Ok(None);
-        }
-        Ok(Some(parcel.step(100)?))
+    fn step(link: &mut ScriptConn) -> Step {
+        let mut piece = [0; 10];
+        link.step(&mut piece)
     }
+
+    // What the steps of a connection give, one behind the other.
+    const STEPS: [Step; 5] = [
+        Step::Got(3),
+        Step::Got(3),
+        Step::Got(1),
+        Step::End,
+        Step::End,
+    ];
 
     #[test]
     fn a_reply_is_given_piece_by_piece(rt: HostRuntime) -> Result<(), Fail> {
-        let mut dial = world(rt.alloc(), &[])?;
-        let mut parcel = parcel(rt.alloc(), &mut dial, "http://h/a")?;
-        assert!(rt; sends(&mut parcel) == Some(Sent::Took(3)));
-        assert_eq!(rt; parcel.sent(), 3);
-        for count in [3, 3, 1] {
-            assert!(rt; steps(&mut parcel)? == Some(Step::Got(count)));
+        let mut link = link(rt.alloc(), &mut world(rt.alloc(), &[])?)?;
+        for wanted in STEPS {
+            assert!(rt; step(&mut link) == wanted);
         }
-        assert!(rt; !parcel.ended());
-        assert!(rt; steps(&mut parcel)? == Some(Step::End));
-        assert!(rt; parcel.ended());
-        assert_eq!(rt; parcel.received(), b"1234567".as_slice());
         Ok(())
+    }
+
+    // Calls of the second connection that wait, and one that fails.
+    const SCRIPT: [ScriptLine; 3] = [
+        ScriptLine {
+            dial: 1,
+            call: 0,
+            trick: Trick::Wait,
+        },
+        ScriptLine {
+            dial: 1,
+            call: 2,
+            trick: Trick::Wait,
+        },
+        ScriptLine {
+            dial: 1,
+            call: 3,
+            trick: Trick::Fail,
+        },
+    ];
+
+    // Whether a connection does as no line of a script says.
+    fn is_left_alone(link: &mut ScriptConn) -> bool {
+        send(link) == Sent::Took(3) && step(link) == Step::Got(3)
+    }
+
+    // Whether a connection does as the script says of the second one.
+    fn is_played(link: &mut ScriptConn) -> bool {
+        send(link) == Sent::NotYet
+            && send(link) == Sent::Took(3)
+            && step(link) == Step::NotYet
+            && step(link) == Step::Failed
     }
 
     #[test]
     fn calls_wait_and_fail_by_the_script(rt: HostRuntime) -> Result<(), Fail> {
-        let script = [
-            ScriptLine {
-                dial: 1,
-                call: 0,
-                trick: Trick::Wait,
-            },
-            ScriptLine {
-                dial: 1,
-                call: 2,
-                trick: Trick::Wait,
-            },
-            ScriptLine {
-                dial: 1,
-                call: 3,
-                trick: Trick::Fail,
-            },
-        ];
-        let mut dial = world(rt.alloc(), &script)?;
-        let mut first = parcel(rt.alloc(), &mut dial, "http://h/a")?;
-        let mut second = parcel(rt.alloc(), &mut dial, "http://h/a")?;
-        assert!(rt; sends(&mut first) == Some(Sent::Took(3)));
-        assert!(rt; sends(&mut second) == Some(Sent::NotYet));
-        assert!(rt; sends(&mut second) == Some(Sent::Took(3)));
-        assert!(rt; steps(&mut second)? == Some(Step::NotYet));
-        assert!(rt; steps(&mut second)? == Some(Step::Failed));
-        assert!(rt; second.broken());
-        assert!(rt; second.received().is_empty());
-        assert!(rt; !first.broken());
+        let mut dial = world(rt.alloc(), &SCRIPT)?;
+        assert!(rt; is_left_alone(&mut link(rt.alloc(), &mut dial)?));
+        assert!(rt; is_played(&mut link(rt.alloc(), &mut dial)?));
         Ok(())
     }
 }
