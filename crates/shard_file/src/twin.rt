@@ -57,7 +57,8 @@ impl Shard {
     // Where the rows begin whose file isn't below that of a stem.
     fn first_from(&self, stem: &[u8]) -> usize
         ensures { (name : List ℕ) (k : ℕ) → k < result
-            → row_passes (is_newer (stem.now ++ newer_ending) name) (slice_get self.now.rows k) ≡ false }
+            → row_passes (is_newer (stem.now ++ newer_ending) name) (slice_get self.now.rows
+            k) ≡ false }
     {
         let bytes = self.bytes.as_slice();
         self.rows.partition_point(|row| compare(row.file.text(bytes).as_bytes(), stem).is_lt())
@@ -66,7 +67,8 @@ impl Shard {
     // Where the rows begin whose file is above that of a stem.
     fn first_behind(&self, stem: &[u8]) -> usize
         ensures { (name : List ℕ) (k : ℕ) → result ≤ k
-            → row_passes (is_newer (stem.now ++ newer_ending) name) (slice_get self.now.rows k) ≡ false }
+            → row_passes (is_newer (stem.now ++ newer_ending) name) (slice_get self.now.rows
+            k) ≡ false }
     {
         let bytes = self.bytes.as_slice();
         self.rows.partition_point(|row| compare(row.file.text(bytes).as_bytes(), stem).is_le())
@@ -74,7 +76,8 @@ impl Shard {
 
     // Whether the row of a place is from packages.conda, of a stem and a name.
     fn is_newer(&self, i: usize, stem: &[u8], name: &str) -> bool
-        ensures { result ≡ row_passes (is_newer (stem.now ++ newer_ending) name.now) (slice_get self.now.rows i) }
+        ensures { result ≡ row_passes (is_newer (stem.now ++ newer_ending) name.now) (slice_get
+            self.now.rows i) }
     {
         match self.row(i) {
             Some(row) => is_newer(row, stem, name),
@@ -125,5 +128,43 @@ fn compare_long(file: &[u8], stem: &[u8]) -> Ordering
         Ordering::Equal => rest.cmp(b".conda".as_slice()),
         Ordering::Less => Ordering::Less,
         Ordering::Greater => Ordering::Greater,
+    }
+}
+
+#[cfg(test)]
+mod tests {
+    use super::*;
+    use std::alloc::Global;
+    use std::test::Fail;
+
+    // In packages a-1-0.tar.bz2, a-2-0.tar.bz2 of the name A, b-1-0.tar.bz2 and c-1-0.zip; in
+    // packages.conda a-1-0.conda of the name A, a-2-0.conda and b-1-0.conda of the name z, all else
+    // of the name a.
+    const ROWS: &[u8] = b"\x82\xa8packages\x84\
+        \xada-1-0.tar.bz2\x83\xa4name\xa1a\xa7version\xa11\xa5build\xa10\
+        \xada-2-0.tar.bz2\x83\xa4name\xa1A\xa7version\xa12\xa5build\xa10\
+        \xadb-1-0.tar.bz2\x83\xa4name\xa1a\xa7version\xa11\xa5build\xa10\
+        \xa9c-1-0.zip\x83\xa4name\xa1a\xa7version\xa11\xa5build\xa10\
+        \xaepackages.conda\x83\
+        \xaba-1-0.conda\x83\xa4name\xa1A\xa7version\xa11\xa5build\xa10\
+        \xaba-2-0.conda\x83\xa4name\xa1a\xa7version\xa12\xa5build\xa10\
+        \xabb-1-0.conda\x83\xa4name\xa1z\xa7version\xa11\xa5build\xa10";
+
+    // The places of the twins of the rows, which ascend by file, and of one row behind them.
+    const TWINS: [Option<usize>; 8] = [None, Some(0), None, Some(2), None, None, None, None];
+
+    fn shard(alloc: Global) -> Result<Shard, Fail> {
+        Ok(Shard::read(alloc, ROWS.to_vec(alloc)?)
+            .ok()
+            .ok_or("these bytes are a shard")?)
+    }
+
+    #[test]
+    fn finds_twins_by_file_and_name(rt: HostRuntime) -> Result<(), Fail> {
+        let shard = shard(rt.alloc())?;
+        for i in 0..TWINS.len() {
+            assert!(rt; shard.twin(i) == TWINS[i]);
+        }
+        Ok(())
     }
 }
