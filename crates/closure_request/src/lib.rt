@@ -2,8 +2,7 @@
 //! in which its packages are looked for (docs/FORMATS.md, "Requests").
 //!
 //! Contracts see a `Request` as an `Asking` (`specs/Request`). The layer above uses: what a line reads
-//! as (`specs/Reading`), the slots in their order (`specs/Slots`), and which requests are well formed
-//! (`specs/Formed`).
+//! as (`specs/Reading`), and the slots in their order (`specs/Slots`).
 #![tactic(auto)]
 
 mod channel;

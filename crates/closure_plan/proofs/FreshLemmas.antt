@@ -1,0 +1,136 @@
+-- Names that are added, one after another.
+use Rattle.std.proofs.Common.{◌≡◌, ℕ, zero, suc, ◌+◌, ◌<◌, arith, Bool, true, false, cond, ◌||◌, ◌&&◌, List, [], ◌∷◌, ◌++◌, length, take, refl, sym, ap, subst, ◌∙◌, true≢false, append_assoc, filter, flat_map, Option, Some, None}
+use Rattle.std.specs.List.{list_any, IsDistinct, AllByRecursion, slice_get, slice_index_or}
+use Rattle.std.proofs.lemmas.List.{take_more}
+use Rattle.std.proofs.lemmas.List.Elements.{filter-append}
+use Rattle.std.proofs.lemmas.List.Concat.{flat_map-append}
+use Rattle.std.proofs.lemmas.List.Folds.{list_any-append}
+use Rattle.std.proofs.lemmas.Option.{slice_get-get_or}
+use Rattle.std.proofs.lemmas.Map.Keys.{IsDistinct-head, IsDistinct-tail, IsDistinct-cons}
+use Rattle.shard_file.specs.Rows.{Row}
+use Rattle.closure_plan.specs.Names.{Name, is_name, has_name}
+use Rattle.closure_request.specs.Request.{Asking}
+use Rattle.closure_plan.specs.Given.{names_of_text, names_if, deps_of, deps_if, name_in, named, stays, kept_by, is_asked, given_of, gives}
+use Rattle.closure_plan.specs.Fresh.{Grows}
+use Rattle.closure_plan.proofs.NameLemmas.{In, itself, one_name, or_left, or_right}
+
+or_none : (a : Bool) → a ≡ (a || false)
+or_none true = refl
+or_none false = refl
+
+or_assoc : (a b c : Bool) → ((a || b) || c) ≡ (a || (b || c))
+or_assoc true b c = refl
+or_assoc false b c = refl
+
+-- nothing is added
+pub grows_none : (names old : List Name) → Grows names old old []
+grows_none names old = record { members = λ q. or_none (has_name (names ++ old) q); distinct = λ d. d }
+
+-- one after another
+pub grows_both : (names a b c xs ys : List Name) → Grows names a b xs → Grows names b c ys → Grows names a c (xs ++ ys)
+grows_both names a b c xs ys g h = record {
+  members = λ q. h.members q ∙ ap (λ x. x || has_name ys q) (g.members q) ∙ or_assoc (has_name (names ++ a) q) (has_name xs q) (has_name ys q) ∙ ap (λ x. has_name (names ++ a) q || x) (sym (list_any-append (is_name q) xs ys));
+  distinct = λ d. h.distinct (g.distinct d);
+}
+
+module _ (names fresh : List Name) (n : Name) where
+  or_true : (a b : Bool) → a ≡ true → a ≡ (a || b)
+  or_true a b e = e ∙ sym (ap (λ x. x || b) e)
+
+  -- a name that is listed
+  pub grows_known : (has_name names n || has_name fresh n) ≡ true → Grows names fresh fresh (n ∷ [])
+  grows_known e = record {
+    members = λ q. elim (is_name q n) as (λ b. is_name q n ≡ b → has_name (names ++ fresh) q ≡ (has_name (names ++ fresh) q || (b || false))) [
+      | true ↦ λ same. let there : In q (names ++ fresh) = subst (λ x. In x (names ++ fresh)) (sym (one_name q n same)) (list_any-append (is_name n) names fresh ∙ e) in there ∙ sym (or_right (has_name (names ++ fresh) q) (true || false) refl)
+      | false ↦ λ same. or_none (has_name (names ++ fresh) q)
+    ] refl;
+    distinct = λ d. d;
+  }
+
+  flip : (x : Name) → is_name n x ≡ false → is_name x n ≡ false
+  flip x e = elim (is_name x n) as (λ b. is_name x n ≡ b → b ≡ false) [
+    | true ↦ λ s. absurd (true≢false (sym (ap (λ m. is_name n m) (one_name x n s) ∙ itself n) ∙ e))
+    | false ↦ λ s. refl
+  ] refl
+
+  all_flipped : (xs : List Name) → has_name xs n ≡ false → AllByRecursion (λ x. is_name x n ≡ false) xs
+  all_flipped [] e = tt
+  all_flipped (x ∷ xs) e = elim (is_name n x) as (λ b. is_name n x ≡ b → (b || has_name xs n) ≡ false → AllByRecursion (λ x. is_name x n ≡ false) (x ∷ xs)) [
+    | true ↦ λ s e. absurd (true≢false e)
+    | false ↦ λ s e. (flip x s, all_flipped xs e)
+  ] refl e
+
+  one_more : (x : Name) (xs : List Name) → AllByRecursion (λ y. is_name x y ≡ false) xs → is_name x n ≡ false → AllByRecursion (λ y. is_name x y ≡ false) (xs ++ n ∷ [])
+  one_more x [] a e = (e, tt)
+  one_more x (y ∷ ys) a e = (a.0, one_more x ys a.1 e)
+
+  distinct_push : (xs : List Name) → IsDistinct is_name xs → AllByRecursion (λ x. is_name x n ≡ false) xs → IsDistinct is_name (xs ++ n ∷ [])
+  distinct_push [] d a = IsDistinct-cons is_name n [] tt d
+  distinct_push (x ∷ xs) d a = IsDistinct-cons is_name x (xs ++ n ∷ []) (one_more x xs (IsDistinct-head is_name x xs d) a.0) (distinct_push xs (IsDistinct-tail is_name x xs d) a.1)
+
+  -- a name that isn't listed
+  pub grows_push : (has_name names n || has_name fresh n) ≡ false → Grows names fresh (fresh ++ n ∷ []) (n ∷ [])
+  grows_push e = record {
+    members = λ q. ap (λ ns. has_name ns q) (sym (append_assoc names fresh (n ∷ []))) ∙ list_any-append (is_name q) (names ++ fresh) (n ∷ []);
+    distinct = λ d. subst (IsDistinct is_name) (append_assoc names fresh (n ∷ [])) (distinct_push (names ++ fresh) d (all_flipped (names ++ fresh) (list_any-append (is_name n) names fresh ∙ e)));
+  }
+
+-- ---- loops
+
+-- a text more
+pub texts_more : (texts : List (List ℕ)) (i : ℕ) (d : List ℕ) → i < length texts → flat_map names_of_text (take (i + 1) texts) ≡ flat_map names_of_text (take i texts) ++ names_if (slice_get texts i)
+texts_more texts i d l =
+    ap (flat_map names_of_text) (take_more texts i d l) ∙ flat_map-append names_of_text (take i texts) (slice_index_or texts i d ∷ [])
+    ∙ ap (λ xs. flat_map names_of_text (take i texts) ++ xs) (append_none (names_of_text (slice_index_or texts i d)))
+    ∙ ap (λ o. flat_map names_of_text (take i texts) ++ names_if o) (sym (slice_get-get_or texts i d l))
+  where
+    append_none : (xs : List Name) → xs ++ [] ≡ xs
+    append_none [] = refl
+    append_none (x ∷ xs) = ap (λ ys. x ∷ ys) (append_none xs)
+
+-- a row more
+pub rows_more : (p : Row → Bool) (rows : List Row) (i : ℕ) (d : Row) → i < length rows → flat_map deps_of (filter p (take (i + 1) rows)) ≡ flat_map deps_of (filter p (take i rows)) ++ deps_if p (slice_get rows i)
+rows_more p rows i d l =
+    ap (λ xs. flat_map deps_of (filter p xs)) (take_more rows i d l) ∙ ap (flat_map deps_of) (filter-append p (take i rows) (slice_index_or rows i d ∷ []))
+    ∙ flat_map-append deps_of (filter p (take i rows)) (filter p (slice_index_or rows i d ∷ []))
+    ∙ ap (λ xs. flat_map deps_of (filter p (take i rows)) ++ xs) (single (slice_index_or rows i d))
+    ∙ ap (λ o. flat_map deps_of (filter p (take i rows)) ++ deps_if p o) (sym (slice_get-get_or rows i d l))
+  where
+    append_none : (xs : List Name) → xs ++ [] ≡ xs
+    append_none [] = refl
+    append_none (x ∷ xs) = ap (λ ys. x ∷ ys) (append_none xs)
+
+    single : (row : Row) → flat_map deps_of (filter p (row ∷ [])) ≡ deps_if p (Some row)
+    single row = elim (p row) as (λ b. flat_map deps_of (cond b (row ∷ []) []) ≡ cond b (deps_of row) []) [
+      | true ↦ append_none (deps_of row)
+      | false ↦ refl
+    ]
+
+-- two tests, one after another
+pub filter_filter : {A : Type 0} (p q : A → Bool) (xs : List A) → filter p (filter q xs) ≡ filter (λ x. q x && p x) xs
+filter_filter p q [] = refl
+filter_filter p q (x ∷ xs) = elim (q x) as (λ b. filter p (cond b (x ∷ filter q xs) (filter q xs)) ≡ cond (b && p x) (x ∷ filter (λ x. q x && p x) xs) (filter (λ x. q x && p x) xs)) [
+  | true ↦ ap (λ ys. cond (p x) (x ∷ ys) ys) (filter_filter p q xs)
+  | false ↦ filter_filter p q xs
+]
+
+-- the given rows are those that pass one test
+pub given_rows : (r : Asking) (s : ℕ) (n : Name) (rows : List Row) → given_of r s n rows ≡ filter (gives r s n rows) rows
+given_rows r s n rows =
+    ap (filter (is_asked r s n)) (filter_filter (stays r.format (named n rows)) (λ row. is_name n (name_in row)) rows)
+    ∙ filter_filter (is_asked r s n) (λ row. is_name n (name_in row) && stays r.format (named n rows) row) rows
+
+pub rows_on : (p : Row → Bool) (rows : List Row) (i : ℕ) → i < length rows → flat_map deps_of (filter p (take (i + 1) rows)) ≡ flat_map deps_of (filter p (take i rows)) ++ deps_if p (slice_get rows i)
+rows_on p [] i l = absurd (omega arith)
+rows_on p (x ∷ xs) i l = rows_more p (x ∷ xs) i x l
+
+-- ---- a name in lower case
+
+pub lower_is : (b : Bool) (x n : Name) → ((b ≡ true → x ≡ n) × (x ≡ n → b ≡ true)) → b ≡ is_name n x
+lower_is b x n e = elim (is_name n x) as (λ t. is_name n x ≡ t → b ≡ t) [
+  | true ↦ λ same. e.1 (sym (one_name n x same))
+  | false ↦ λ apart. elim b as (λ t. (t ≡ true → x ≡ n) → t ≡ false) [
+    | true ↦ λ k. absurd (true≢false (sym (ap (is_name n) (k refl) ∙ itself n) ∙ apart))
+    | false ↦ λ k. refl
+  ] (e.0)
+] refl

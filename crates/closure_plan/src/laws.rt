@@ -1,0 +1,32 @@
+//! Laws of the closure, each the contract of a function that does nothing.
+
+ghost use Rattle.closure_plan.specs.Laws.{ClosureIsGiven, ClosureIsThatOfWorld, GivenIsInClosure, GivenStays, NothingIsAdded, OrderChangesNothing, ReachIsLeast, ReachStays, RoundsGrow, WantedStays};
+
+/// Rounds keep what was reached, and end: what is reached has the root names and all that it leads
+/// to, nothing is added after that, and no smaller list of names is so.
+pub fn rounds_end()
+    ensures grow { RoundsGrow }
+    ensures nothing_added { NothingIsAdded }
+    ensures least { ReachIsLeast }
+{}
+
+/// The closure is what is given of the names that are reached: each given row is in it, and each row
+/// of it is given.
+pub fn closure_is_what_is_given()
+    ensures given { GivenIsInClosure }
+    ensures only { ClosureIsGiven }
+{}
+
+/// More pins and more leaves only add: what was wanted, given and reached stays so.
+pub fn more_only_adds()
+    ensures wanted { WantedStays }
+    ensures given { GivenStays }
+    ensures reached { ReachStays }
+{}
+
+/// The order in which leaves arrive changes nothing, and the closure over what was needed is that
+/// over a world that has all.
+pub fn order_changes_nothing()
+    ensures order { OrderChangesNothing }
+    ensures world { ClosureIsThatOfWorld }
+{}

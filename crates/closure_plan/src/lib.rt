@@ -1,0 +1,21 @@
+//! The closure of a request: the records that it can reach, in whatever order indexes and shards
+//! arrive (docs/FORMATS.md, "Closures").
+//!
+//! Contracts see a `Plan` as a `Planned`: what is known and what is marked (`specs/Plan`). The layer
+//! above uses: the need to ask for next (`specs/Needs`), what a pin and a shard change
+//! (`specs/Giving`), that names are those that are reached (`IsReached`), and that the rows of an
+//! answer are the closure over what was given (`specs/Closure`).
+#![tactic(auto)]
+
+mod answer;
+mod holders;
+mod laws;
+mod need;
+mod plan;
+mod sources;
+
+pub use answer::{Answer, AnswerRow, Part};
+pub use holders::{LeafHolder, PinHolder};
+pub use laws::{closure_is_what_is_given, more_only_adds, order_changes_nothing, rounds_end};
+pub use need::Need;
+pub use plan::Plan;
