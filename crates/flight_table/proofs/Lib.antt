@@ -1,2 +1,3 @@
 pub mod KnowLemmas
 pub mod TellLemmas
+pub mod NewLemmas
