@@ -232,7 +232,7 @@ still_open budget q s (Refreshed g) may is = inl is
 still_open budget q s (Abandoned g) may is = inl is
 
 -- who leaves awaits no flight
-leaves_all : (s : State) (q f : ℕ) (y : Flight) → slice_get (map (parted q) s.flights) f ≡ Some y → is_one_of q y.queries ≡ true → ⊥
+pub leaves_all : (s : State) (q f : ℕ) (y : Flight) → slice_get (map (parted q) s.flights) f ≡ Some y → is_one_of q y.queries ≡ true → ⊥
 leaves_all s q f y known h =
     let m = map_some (parted q) (slice_get s.flights f) y (sym (get_map (parted q) s.flights f) ∙ known) in
     never_itself q m.0.queries (ap (λ (z : Flight). is_one_of q z.queries) (sym m.2) ∙ h)

@@ -33,7 +33,8 @@ entered_more js e q f entered =
 behind : (js : List Entry) (e : Entry) (f : ℕ) (y : Flight) → IsFlight (step (after js) e) f y → IsFlight (after (js ++ e ∷ [])) f y
 behind js e f y there = subst (λ (s : State). IsFlight s f y) (sym (after_push js e)) there
 
-lost_more : (budget : ℕ) (js : List Entry) (e : Entry) (q f : ℕ) → Allowed budget (after js) e → WasLost js q f → WasLost (js ++ e ∷ []) q f
+-- a flight that another lost stays lost
+pub lost_more : (budget : ℕ) (js : List Entry) (e : Entry) (q f : ℕ) → Allowed budget (after js) e → WasLost js q f → WasLost (js ++ e ∷ []) q f
 lost_more budget js e q f may w =
     let y = gone_stays budget f (after js) e w.flight may w.there w.gone_now in
     record {

@@ -1,3 +1,4 @@
 pub mod KnowLemmas
 pub mod TellLemmas
 pub mod NewLemmas
+pub mod CloseLemmas

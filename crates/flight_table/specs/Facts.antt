@@ -1,5 +1,5 @@
 -- What a pass and a door say. They are plain data that contracts alone see.
-use Rattle.std.specs.Prelude.{ℕ, Bool, true, List, [], Option, None}
+use Rattle.std.specs.Prelude.{ℕ, ◌+◌, Bool, true, false, List, [], Option, None}
 use Rattle.link_io.specs.Origin.{Origin}
 use Rattle.link_io.specs.declared.target.Key.{Key}
 use Rattle.link_io.specs.declared.target.Target.{Target}
@@ -25,3 +25,7 @@ pub record Facts : Type 0 where
 abbrev pub new_pass : ℕ → ℕ → Origin → Facts
 new_pass query base origin =
     record { query = query; calls = 1; live = true; asks = []; losses = 0; wrecks = []; lost = []; hand = None; awaits = []; base = base; origin = origin }
+
+-- the pass of a query that has just left
+abbrev pub left_pass : Facts → Facts
+left_pass p = record p { calls = p.calls + 1; live = false; awaits = [] }

@@ -8,8 +8,8 @@ ghost use Rattle.flight_journal.specs.declared.entry.Entry.TheVariants.{Opened};
 ghost use Rattle.flight_journal.specs.Journal.{after, Allowed, Legal};
 ghost use Rattle.flight_journal.specs.Count.{names};
 ghost use Rattle.flight_rows.specs.Sight.{Sight, IsSightSound, hand_in};
-ghost use Rattle.flight_rows.specs.Serves.{Writes, HandsStay, HandMoves};
-ghost use Rattle.flight_table.specs.Facts.{Facts, new_pass};
+ghost use Rattle.flight_rows.specs.Serves.{Writes, HandsStay, HandMoves, IsLeaving};
+ghost use Rattle.flight_table.specs.Facts.{Facts, new_pass, left_pass};
 ghost use Rattle.flight_table.specs.Knows.{Knows};
 ghost use Rattle.flight_table.specs.Tells.{Tells, HoldsTheSame};
 
@@ -40,4 +40,11 @@ pub fn a_new_pass_is_told()
     ensures { (budget q base : ℕ) (origin : Origin) (journal : List Entry) →
         Legal budget journal → q ≡ length (after journal).live →
         Knows (journal ++ Opened q ∷ []) (new_pass q base origin) }
+{}
+
+/// A query that closes or is cancelled has a pass that says so, and awaits nothing any more.
+pub fn a_pass_that_left_is_told()
+    ensures { (budget : ℕ) (journal : List Entry) (e : Entry) (p : Facts) →
+        Legal budget journal → Allowed budget (after journal) e → IsLeaving p.query e →
+        Knows journal p → Knows (journal ++ e ∷ []) (left_pass p) }
 {}
