@@ -1,5 +1,5 @@
 -- What is so of each state behind a legal journal.
-use Rattle.std.proofs.Common.{◌≡◌, ◌≢◌, ◌⊎◌, ℕ, zero, suc, ◌+◌, ◌<◌, ◌≤◌, ◌==◌, ◌||◌, Bool, true, false, true≢false, not, cond, if◌then◌else◌, List, [], ◌∷◌, ◌++◌, map, length, Option, Some, None, slice_get, slice_set, refl, sym, ap, ◌∙◌, subst, inl, inr, ⊎_elim, arith, eq-eqb, ne_eqb}
+use Rattle.std.proofs.Common.{◌≡◌, ◌≢◌, ◌⊎◌, ℕ, ◌<◌, ◌==◌, ◌||◌, Bool, true, false, true≢false, not, cond, if◌then◌else◌, List, [], ◌∷◌, ◌++◌, map, length, Option, Some, None, slice_get, refl, sym, ap, ◌∙◌, subst, inl, inr, ⊎_elim, arith}
 use Rattle.std.specs.Option.{option_map}
 use Rattle.std.proofs.lemmas.Bool.{cases_eq}
 use Rattle.std.proofs.lemmas.Option.{slice_get_within}
@@ -8,9 +8,9 @@ use Rattle.shard_cache.proofs.OrderLemmas.{listed_behind}
 use Rattle.link_io.specs.declared.target.Target.{Target}
 use Rattle.flight_journal.specs.declared.entry.Entry.{Entry}
 use Rattle.flight_journal.specs.declared.entry.Entry.TheVariants.{Opened, Began, Joined, Hit, Taken, Landed, Lost, Cancelled, Closed, Evicted, Refreshed, Abandoned}
-use Rattle.flight_journal.specs.State.{Phase, flying, landed, gone, Flight, State, nothing, IsFlight, is_one_of, all_but, IsOpen, WaitsIn, IsOwed, Flies, IsKept, HoldsKey, joined, parted, came_to, ended, change}
+use Rattle.flight_journal.specs.State.{flying, landed, gone, Flight, State, nothing, IsFlight, is_one_of, all_but, IsOpen, WaitsIn, IsOwed, Flies, IsKept, HoldsKey, joined, parted, came_to, ended, change}
 use Rattle.flight_journal.specs.Journal.{step, after_from, after, Allowed, LegalFrom, Legal}
-use Rattle.flight_journal.proofs.ListLemmas.{get_changed, get_unchanged, get_last, get_before_last, get_map, get_set, get_unset, length_more, length_set}
+use Rattle.flight_journal.proofs.ListLemmas.{get_changed, get_unchanged, get_last, get_before_last, get_map, get_unset}
 use Rattle.flight_journal.proofs.CarryLemmas.{one_flight, one_of_all, over_stays}
 
 -- ---- where a flight behind an entry comes from
@@ -78,8 +78,8 @@ from_change : (s : State) (e : Entry) (g f : ℕ) (h : Flight → Flight) (y : F
 from_change s e g f h y known on =
     ⊎_elim
     (λ (same : f ≡ g).
-        let m = map_some h (slice_get s.flights f) y (sym (get_changed f h s.flights) ∙ ap (λ n. slice_get (change n h s.flights) f) same ∙ known) in
-        record { flight = m.0; there = m.1; was = subst (Was (λ q. e ≡ Joined q f) m.0) (sym m.2) (on m.0 same) })
+    let m = map_some h (slice_get s.flights f) y (sym (get_changed f h s.flights) ∙ ap (λ n. slice_get (change n h s.flights) f) same ∙ known) in
+    record { flight = m.0; there = m.1; was = subst (Was (λ q. e ≡ Joined q f) m.0) (sym m.2) (on m.0 same) })
     (λ (ne : f ≢ g). record { flight = y; there = sym (get_unchanged g f h s.flights ne) ∙ known; was = stays _ y })
     (cases_eq f g)
 
@@ -97,10 +97,10 @@ came_from budget f s (Opened p) y may known = inl (as_before s _ f y known)
 came_from budget f s (Began p g t) y may known =
     ⊎_elim
     (λ (e : f ≡ length s.flights).
-        let new : slice_get (s.flights ++ record { target = t; phase = flying; queries = p ∷ [] } ∷ []) f ≡ Some (record { target = t; phase = flying; queries = p ∷ [] }) =
-            ap (λ n. slice_get (s.flights ++ record { target = t; phase = flying; queries = p ∷ [] } ∷ []) n) e ∙ get_last s.flights _ in
-        let same : Some y ≡ Some (record { target = t; phase = flying; queries = p ∷ [] }) = sym known ∙ new in
-        inr (record { by = p; target = t; is = ap (λ n. Began p n t) (may.2 ∙ sym e); number = e; flight = cc }))
+    let new : slice_get (s.flights ++ record { target = t; phase = flying; queries = p ∷ [] } ∷ []) f ≡ Some (record { target = t; phase = flying; queries = p ∷ [] }) =
+    ap (λ n. slice_get (s.flights ++ record { target = t; phase = flying; queries = p ∷ [] } ∷ []) n) e ∙ get_last s.flights _ in
+    let same : Some y ≡ Some (record { target = t; phase = flying; queries = p ∷ [] }) = sym known ∙ new in
+    inr (record { by = p; target = t; is = ap (λ n. Began p n t) (may.2 ∙ sym e); number = e; flight = cc }))
     (λ (ne : f ≢ length s.flights). inl (as_before s _ f y (sym (get_before_last s.flights _ f ne) ∙ known)))
     (cases_eq f (length s.flights))
 came_from budget f s (Joined p g) y may known = inl (from_change s (Joined p g) g f (joined p) y known (λ x same. on_joined _ p x (ap (λ n. Joined p n) (sym same))))
@@ -126,6 +126,7 @@ listed_only f g (p ∷ ps) h = split (p.0 == g) (listed_only f g ps) h
     behind : (c : Bool) → (is_listed f (only g ps) ≡ true → is_listed f ps ≡ true) → (if c then true else is_listed f (only g ps)) ≡ true → (if c then true else is_listed f ps) ≡ true
     behind true more k = refl
     behind false more k = more k
+
     split : (b : Bool) → (is_listed f (only g ps) ≡ true → is_listed f ps ≡ true) → is_listed f (if b then p ∷ only g ps else only g ps) ≡ true → is_listed f (p ∷ ps) ≡ true
     split true more k = behind (p.0 == f) more k
     split false more k = listed_behind f p ps (more k)
@@ -137,6 +138,7 @@ listed_without f g (p ∷ ps) h = split (p.0 == g) (listed_without f g ps) h
     behind : (c : Bool) → (is_listed f (without g ps) ≡ true → is_listed f ps ≡ true) → (if c then true else is_listed f (without g ps)) ≡ true → (if c then true else is_listed f ps) ≡ true
     behind true more k = refl
     behind false more k = more k
+
     split : (b : Bool) → (is_listed f (without g ps) ≡ true → is_listed f ps ≡ true) → is_listed f (if b then without g ps else p ∷ without g ps) ≡ true → is_listed f (p ∷ ps) ≡ true
     split true more k = listed_behind f p ps (more k)
     split false more k = behind (p.0 == f) more k
@@ -185,6 +187,7 @@ sound_nothing = record {
   where
     never : (f : ℕ) (x : Flight) → IsFlight nothing f x → ⊥
     never f x e = cc
+
     none : (f : ℕ) (t : Target) → HoldsKey nothing f t → ⊥
     none f t a = ⊎_elim (λ (w : Flies nothing f t). never f w.0 w.1) (λ (w : IsKept nothing f t). never f w.0 w.1) a
 
@@ -201,6 +204,7 @@ sized_step budget s e may sound f h = ⊎_elim old (new e may) (kept_from s e f 
     old k = let w = sound.sized f k in
         let y = over_stays budget f s e w.1 may w.2 (λ flies. landed≢flying (Some w.0) (sym w.3 ∙ flies)) in
         (w.0, y.0, y.1, y.2 ∙ w.3)
+
     new : (e' : Entry) → Allowed budget s e' → IsKeptBy f e' → sized_flight (step s e') f
     new e' may' k = subst (λ (x : Entry). Allowed budget s x → sized_flight (step s x) f) (sym k.2) (λ (m : Allowed budget s (Landed k.0 f (Some k.1))). let w = m.2 in (k.1, came_to (Some k.1) k.0 w.0, get_changed f (came_to (Some k.1) k.0) s.flights ∙ ap (option_map (came_to (Some k.1) k.0)) w.1, refl)) may'
 
@@ -246,10 +250,13 @@ opened_step budget s e may sound q f y known h =
         (λ (i : e' ≡ Cancelled q). leaves_all s q f y (subst (λ (x : Entry). IsFlight (step s x) f y) i there) h)
         (λ (i : e' ≡ Closed q). leaves_all s q f y (subst (λ (x : Entry). IsFlight (step s x) f y) i there) h)
         l
+
     joiner : (e' : Entry) → Allowed budget s e' → e' ≡ Joined q f → IsOpen s q
     joiner e' may' i = let m : Allowed budget s (Joined q f) = subst (λ (x : Entry). Allowed budget s x) i may' in m.1
+
     older : Older s e f y → IsOpen s q
     older o = ⊎_elim (λ (k : is_one_of q o.flight.queries ≡ true). sound.opened q f o.flight o.there k) (λ (i : e ≡ Joined q f). joiner e may i) (o.was.awaited q h)
+
     newer : Newer s e f y → IsOpen s q
     newer n =
         let m : Allowed budget s (Began n.by f n.target) = subst (λ (x : Entry). Allowed budget s x) n.is may in
@@ -274,22 +281,24 @@ held_before budget s e may sound f t holds = ⊎_elim flew was_kept holds
         (λ (o : Older s e f w.0). inl (inl (o.flight, o.there, o.was.flew w.2, sym o.was.target ∙ w.3)))
         (λ (n : Newer s e f w.0). inr (n.by, n.is ∙ ap (λ (u : Target). Began n.by f u) (sym (ap (λ (y : Flight). y.target) n.flight) ∙ w.3)))
         (came_from budget f s e w.0 may w.1)
+
     was_kept : IsKept (step s e) f t → HoldsKey s f t ⊎ BeginsBy e f t
     was_kept w = ⊎_elim
         (λ (k : is_listed f s.kept ≡ true). ⊎_elim
-            (λ (o : Older s e f w.0). inl (inr (o.flight, o.there, k, sym o.was.target ∙ w.3)))
-            (λ (n : Newer s e f w.0). let z = sound.sized f k in let below = slice_get_within s.flights f z.1 z.2 in absurd (not_below f (length s.flights) n.number below))
-            (came_from budget f s e w.0 may w.1))
+        (λ (o : Older s e f w.0). inl (inr (o.flight, o.there, k, sym o.was.target ∙ w.3)))
+        (λ (n : Newer s e f w.0). let z = sound.sized f k in let below = slice_get_within s.flights f z.1 z.2 in absurd (not_below f (length s.flights) n.number below))
+        (came_from budget f s e w.0 may w.1))
         (λ (k : IsKeptBy f e).
-            let m : Allowed budget s (Landed k.0 f (Some k.1)) = subst (λ (x : Entry). Allowed budget s x) k.2 may in
-            ⊎_elim
-            (λ (o : Older s e f w.0). inl (inl (o.flight, o.there, ap (λ (x : Flight). x.phase) (one_flight s f o.flight m.2.0 o.there m.2.1) ∙ m.2.2, sym o.was.target ∙ w.3)))
-            (λ (n : Newer s e f w.0). absurd (not_both k.0 n.by f k.1 n.target (sym k.2 ∙ n.is)))
-            (came_from budget f s e w.0 may w.1))
+        let m : Allowed budget s (Landed k.0 f (Some k.1)) = subst (λ (x : Entry). Allowed budget s x) k.2 may in
+        ⊎_elim
+        (λ (o : Older s e f w.0). inl (inl (o.flight, o.there, ap (λ (x : Flight). x.phase) (one_flight s f o.flight m.2.0 o.there m.2.1) ∙ m.2.2, sym o.was.target ∙ w.3)))
+        (λ (n : Newer s e f w.0). absurd (not_both k.0 n.by f k.1 n.target (sym k.2 ∙ n.is)))
+        (came_from budget f s e w.0 may w.1))
         (kept_from s e f w.2)
       where
         not_below : (m n : ℕ) → m ≡ n → m < n → ⊥
         not_below m n same below = let bad : ⊥ = omega arith in bad
+
         not_both : (p q g z : ℕ) (u : Target) → Landed p g (Some z) ≡ Began q g u → ⊥
         not_both p q g z u same = cc
 
@@ -297,19 +306,20 @@ one_key_step : (budget : ℕ) (s : State) (e : Entry) → Allowed budget s e →
 one_key_step budget s e may sound f g t u a b same =
     ⊎_elim
     (λ (c : HoldsKey s f t). ⊎_elim
-        (λ (d : HoldsKey s g u). sound.one_key f g t u c d same)
-        (λ (d : BeginsBy e g u). absurd (free g u d f t c same))
-        (held_before budget s e may sound g u b))
+    (λ (d : HoldsKey s g u). sound.one_key f g t u c d same)
+    (λ (d : BeginsBy e g u). absurd (free g u d f t c same))
+    (held_before budget s e may sound g u b))
     (λ (c : BeginsBy e f t). ⊎_elim
-        (λ (d : HoldsKey s g u). absurd (free f t c g u d (sym same)))
-        (λ (d : BeginsBy e g u). one_number c.0 d.0 f g t u (sym c.1 ∙ d.1))
-        (held_before budget s e may sound g u b))
+    (λ (d : HoldsKey s g u). absurd (free f t c g u d (sym same)))
+    (λ (d : BeginsBy e g u). one_number c.0 d.0 f g t u (sym c.1 ∙ d.1))
+    (held_before budget s e may sound g u b))
     (held_before budget s e may sound f t a)
   where
     free : (h : ℕ) (v : Target) → BeginsBy e h v → (k : ℕ) (w : Target) → HoldsKey s k w → w.key ≡ v.key → ⊥
     free h v begins k w holds is =
         let m : Allowed budget s (Began begins.0 h v) = subst (λ (x : Entry). Allowed budget s x) begins.1 may in
         m.3 k w holds is
+
     one_number : (p q h k : ℕ) (v w : Target) → Began p h v ≡ Began q k w → h ≡ k
     one_number p q h k v w is = cc
 

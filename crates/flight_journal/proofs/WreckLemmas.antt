@@ -1,12 +1,11 @@
 -- Flights that came to a value without a size.
-use Rattle.std.proofs.Common.{◌≡◌, ◌≢◌, ◌⊎◌, ℕ, zero, suc, ◌+◌, ◌==◌, ◌||◌, ◌&&◌, Bool, true, false, true≢false, not, if◌then◌else◌, List, [], ◌∷◌, ◌++◌, length, map, Option, Some, None, slice_get, refl, sym, ap, ◌∙◌, subst, inl, inr, ⊎_elim, arith, append-nil, append_assoc, length-append, eq-eqb, ne_eqb}
-use Rattle.std.specs.List.{list_any}
-use Rattle.std.specs.Option.{option_map, is_some}
+use Rattle.std.proofs.Common.{◌≡◌, ◌≢◌, ◌⊎◌, ℕ, zero, suc, ◌+◌, ◌==◌, ◌||◌, ◌&&◌, Bool, true, false, true≢false, List, [], ◌∷◌, ◌++◌, length, Option, Some, None, slice_get, refl, sym, ap, ◌∙◌, subst, inl, inr, ⊎_elim, arith, length-append, eq-eqb, ne_eqb}
+use Rattle.std.specs.Option.{option_map}
 use Rattle.std.proofs.lemmas.Bool.{cases_eq}
-use Rattle.std.proofs.lemmas.Option.{slice_get_within, slice_get_past}
+use Rattle.std.proofs.lemmas.Option.{slice_get_past}
 use Rattle.flight_journal.specs.declared.entry.Entry.{Entry}
 use Rattle.flight_journal.specs.declared.entry.Entry.TheVariants.{Opened, Began, Joined, Hit, Taken, Landed, Lost, Cancelled, Closed, Evicted, Refreshed, Abandoned}
-use Rattle.flight_journal.specs.State.{Phase, flying, landed, gone, Flight, State, nothing, IsFlight, joined, parted, came_to, ended, change}
+use Rattle.flight_journal.specs.State.{flying, Flight, State, nothing, IsFlight, joined, parted, came_to, ended, change}
 use Rattle.flight_journal.specs.Journal.{step, after_from, after, Allowed, LegalFrom, Legal}
 use Rattle.flight_journal.specs.Count.{Among, one_if, only_if, is_wreck, wrecked_in, wrecks_from, wrecks_flight, is_wrecked_by, meets_wreck, wrecks_met}
 use Rattle.flight_journal.proofs.ListLemmas.{none_in_nothing, get_changed, get_unchanged, get_last, get_before_last, get_map}
@@ -65,10 +64,10 @@ wreck_step budget f s (Opened p) may = sym (or_false (is_wreck (slice_get s.flig
 wreck_step budget f s (Began p g t) may =
     ⊎_elim
     (λ (e : f ≡ length s.flights).
-        let past : slice_get s.flights f ≡ None = slice_get_past s.flights f (omega arith) in
-        let new : slice_get (s.flights ++ record { target = t; phase = flying; queries = p ∷ [] } ∷ []) f ≡ Some (record { target = t; phase = flying; queries = p ∷ [] }) =
-            ap (λ n. slice_get (s.flights ++ record { target = t; phase = flying; queries = p ∷ [] } ∷ []) n) e ∙ get_last s.flights _ in
-        ap is_wreck new ∙ sym (ap (λ (o : Option Flight). is_wreck o || false) past))
+    let past : slice_get s.flights f ≡ None = slice_get_past s.flights f (omega arith) in
+    let new : slice_get (s.flights ++ record { target = t; phase = flying; queries = p ∷ [] } ∷ []) f ≡ Some (record { target = t; phase = flying; queries = p ∷ [] }) =
+    ap (λ n. slice_get (s.flights ++ record { target = t; phase = flying; queries = p ∷ [] } ∷ []) n) e ∙ get_last s.flights _ in
+    ap is_wreck new ∙ sym (ap (λ (o : Option Flight). is_wreck o || false) past))
     (λ (ne : f ≢ length s.flights). ap is_wreck (get_before_last s.flights _ f ne) ∙ sym (or_false (is_wreck (slice_get s.flights f))))
     (cases_eq f (length s.flights))
 wreck_step budget f s (Joined p g) may = wreck_change s g f (joined p) false (λ o e is. joined_wreck p o) (λ ne. refl)
@@ -76,8 +75,8 @@ wreck_step budget f s (Hit p g) may = sym (or_false (is_wreck (slice_get s.fligh
 wreck_step budget f s (Taken p g) may = wreck_change s g f (parted p) false (λ o e is. parted_wreck p o) (λ ne. refl)
 wreck_step budget f s (Landed p g None) may =
     wreck_change s g f (came_to None p) (g == f) (λ o e is.
-        ap (λ (x : Option Flight). is_wreck (option_map (came_to None p) x)) (there_at s f g may.2.0 o e is may.2.1)
-        ∙ sym (ap (λ (b : Bool). is_wreck o || b) (eq-eqb g f (sym e)) ∙ or_true (is_wreck o)))
+    ap (λ (x : Option Flight). is_wreck (option_map (came_to None p) x)) (there_at s f g may.2.0 o e is may.2.1)
+    ∙ sym (ap (λ (b : Bool). is_wreck o || b) (eq-eqb g f (sym e)) ∙ or_true (is_wreck o)))
     (λ ne. ne_eqb g f (λ e. ne (sym e)))
 wreck_step budget f s (Landed p g (Some size)) may = wreck_change s g f (came_to (Some size) p) false (ends_whole s f g (came_to (Some size) p) may.2.0 (λ y. refl) may.2.1 may.2.2) (λ ne. refl)
 wreck_step budget f s (Lost p g) may = wreck_change s g f ended false (ends_whole s f g ended may.2.0 (λ y. refl) may.2.1 may.2.2) (λ ne. refl)

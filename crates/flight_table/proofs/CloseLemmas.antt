@@ -1,12 +1,12 @@
 -- What the pass of a query says that has just left.
-use Rattle.std.proofs.Common.{◌≡◌, ◌⊎◌, ℕ, ◌+◌, ◌<◌, Bool, true, false, List, [], ◌∷◌, ◌++◌, Option, Some, None, slice_get, refl, sym, ap, ◌∙◌, subst, ⊎_elim, arith, append-nil, add-zero, eq-eqb}
+use Rattle.std.proofs.Common.{◌≡◌, ◌⊎◌, ℕ, ◌+◌, Bool, true, false, List, [], ◌∷◌, ◌++◌, Option, refl, sym, ap, ◌∙◌, subst, ⊎_elim, arith, append-nil, add-zero, eq-eqb}
 use Rattle.std.specs.Option.{unwrap_or}
 use Rattle.link_io.specs.declared.target.Key.{Key}
 use Rattle.flight_journal.specs.declared.entry.Entry.{Entry}
 use Rattle.flight_journal.specs.declared.entry.Entry.TheVariants.{Cancelled, Closed}
 use Rattle.flight_journal.specs.State.{State, nothing, left_by, WaitsIn, IsOwed, IsOpen, is_open}
 use Rattle.flight_journal.specs.Journal.{after, step, Allowed, Legal}
-use Rattle.flight_journal.specs.Count.{names, one_if, calls_of, losses_of, asked_in, asks_from, wrecked_in, wrecks_from, is_this, loser_in}
+use Rattle.flight_journal.specs.Count.{names, one_if, losses_of, asked_in, asks_from, wrecked_in, wrecks_from, is_this, loser_in}
 use Rattle.flight_journal.proofs.PushLemmas.{after_push}
 use Rattle.flight_journal.proofs.ListLemmas.{none_in_nothing, get_set}
 use Rattle.flight_journal.proofs.CountLemmas.{calls_push, losses_push, asks_push, wrecks_push}

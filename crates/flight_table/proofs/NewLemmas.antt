@@ -1,20 +1,19 @@
 -- What the pass of a query says that has just opened.
-use Rattle.std.proofs.Common.{◌≡◌, ◌≢◌, ◌⊎◌, ℕ, zero, suc, ◌+◌, ◌<◌, ◌≤◌, ◌==◌, Bool, true, false, true≢false, List, [], ◌∷◌, ◌++◌, length, map, Option, Some, None, slice_get, refl, sym, ap, ◌∙◌, subst, ⊎_elim, arith, append-nil, eq-eqb}
+use Rattle.std.proofs.Common.{◌≡◌, ◌⊎◌, ℕ, ◌+◌, Bool, true, false, List, [], ◌∷◌, ◌++◌, length, Option, slice_get, refl, sym, ap, ◌∙◌, subst, ⊎_elim, arith, append-nil, eq-eqb}
 use Rattle.std.specs.Option.{unwrap_or}
 use Rattle.std.proofs.lemmas.Option.{slice_get_within}
 use Rattle.link_io.specs.Origin.{Origin}
 use Rattle.link_io.specs.declared.target.Key.{Key}
-use Rattle.link_io.specs.declared.target.Target.{Target}
 use Rattle.flight_journal.specs.declared.entry.Entry.{Entry}
 use Rattle.flight_journal.specs.declared.entry.Entry.TheVariants.{Opened}
 use Rattle.flight_journal.specs.State.{State, nothing, WaitsIn, IsOwed, IsOpen, is_open}
-use Rattle.flight_journal.specs.Journal.{after, step, after_from, Legal}
-use Rattle.flight_journal.specs.Count.{Among, names, one_if, calls_of, losses_of, asked_in, asks_from, wrecked_in, wrecks_from, is_this, loser_in}
+use Rattle.flight_journal.specs.Journal.{after, step, Legal}
+use Rattle.flight_journal.specs.Count.{names, one_if, calls_of, losses_of, asked_in, asks_from, wrecked_in, wrecks_from, is_this, loser_in}
 use Rattle.flight_journal.proofs.PushLemmas.{after_push}
 use Rattle.flight_journal.proofs.ListLemmas.{none_in_nothing, get_last}
 use Rattle.flight_journal.proofs.CountLemmas.{calls_push, losses_push, asks_push, wrecks_push, losses_stay, asks_stay, wrecks_stay, unseen}
 use Rattle.flight_journal.proofs.LegalLemmas.{waits_open, owed_open}
-use Rattle.flight_table.specs.Facts.{Facts, new_pass}
+use Rattle.flight_table.specs.Facts.{new_pass}
 use Rattle.flight_table.specs.Knows.{Knows}
 
 -- ---- a query that no entry names
@@ -72,6 +71,7 @@ knows_new budget q base origin journal legal number =
   where
     closed : IsOpen (after journal) q → ⊥
     closed alive = let below = slice_get_within (after journal).live q true alive in let bad : ⊥ = omega arith in bad
+
     nothing_awaited : (f : ℕ) → WaitsIn (step (after journal) (Opened q)) q f ⊎ IsOwed (step (after journal) (Opened q)) q f → ⊥
     nothing_awaited f either =
         ⊎_elim
