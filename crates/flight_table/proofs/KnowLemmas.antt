@@ -73,7 +73,8 @@ owed_on js e q f x y there on landed_so one =
     rest)
     on.phase
 
-await_on : (budget : ℕ) (js : List Entry) (e : Entry) (q f : ℕ) (t : Target) → Allowed budget (after js) e → (a : IsAwait js q f t) → (y : Flight) → IsFlight (step (after js) e) f y → FliesOn q a.flight y → IsAwait (js ++ e ∷ []) q f t
+-- a flight that goes on for the query is still awaited
+pub await_on : (budget : ℕ) (js : List Entry) (e : Entry) (q f : ℕ) (t : Target) → Allowed budget (after js) e → (a : IsAwait js q f t) → (y : Flight) → IsFlight (step (after js) e) f y → FliesOn q a.flight y → IsAwait (js ++ e ∷ []) q f t
 await_on budget js e q f t may a y known on =
     let there = behind js e f y known in
     record {

@@ -2,3 +2,4 @@ pub mod KnowLemmas
 pub mod TellLemmas
 pub mod NewLemmas
 pub mod CloseLemmas
+pub mod HitPassLemmas

@@ -1,5 +1,5 @@
 -- What a pass and a door say. They are plain data that contracts alone see.
-use Rattle.std.specs.Prelude.{ℕ, ◌+◌, Bool, true, false, List, [], Option, None}
+use Rattle.std.specs.Prelude.{ℕ, ◌+◌, Bool, true, false, List, [], ◌∷◌, ◌++◌, Option, None}
 use Rattle.link_io.specs.Origin.{Origin}
 use Rattle.link_io.specs.declared.target.Key.{Key}
 use Rattle.link_io.specs.declared.target.Target.{Target}
@@ -29,3 +29,7 @@ new_pass query base origin =
 -- the pass of a query that has just left
 abbrev pub left_pass : Facts → Facts
 left_pass p = record p { calls = p.calls + 1; live = false; awaits = [] }
+
+-- the pass of a query that has just taken what is kept under a key
+abbrev pub hit_pass : Key → Facts → Facts
+hit_pass key p = record p { calls = p.calls + 1; asks = p.asks ++ key ∷ [] }

@@ -3,13 +3,15 @@
 ghost use Rattle.std.specs.Prelude.{◌≡◌, ◌≢◌, ◌++◌, ◌∷◌, [], ℕ, List, Option, Some, None, false, length};
 ghost use Rattle.std.specs.List.{list_any};
 ghost use Rattle.link_io.specs.Origin.{Origin};
+ghost use Rattle.link_io.specs.declared.target.Target.{Target};
 ghost use Rattle.flight_journal.specs.declared.entry.Entry.{Entry};
-ghost use Rattle.flight_journal.specs.declared.entry.Entry.TheVariants.{Opened};
+ghost use Rattle.flight_journal.specs.declared.entry.Entry.TheVariants.{Opened, Hit};
+ghost use Rattle.flight_journal.specs.State.{IsKept};
 ghost use Rattle.flight_journal.specs.Journal.{after, Allowed, Legal};
 ghost use Rattle.flight_journal.specs.Count.{names};
 ghost use Rattle.flight_rows.specs.Sight.{Sight, IsSightSound, hand_in};
 ghost use Rattle.flight_rows.specs.Serves.{Writes, HandsStay, HandMoves, IsLeaving};
-ghost use Rattle.flight_table.specs.Facts.{Facts, new_pass, left_pass};
+ghost use Rattle.flight_table.specs.Facts.{Facts, new_pass, left_pass, hit_pass};
 ghost use Rattle.flight_table.specs.Knows.{Knows};
 ghost use Rattle.flight_table.specs.Tells.{Tells, HoldsTheSame};
 
@@ -47,4 +49,12 @@ pub fn a_pass_that_left_is_told()
     ensures { (budget : ℕ) (journal : List Entry) (e : Entry) (p : Facts) →
         Legal budget journal → Allowed budget (after journal) e → IsLeaving p.query e →
         Knows journal p → Knows (journal ++ e ∷ []) (left_pass p) }
+{}
+
+/// A query that takes what is kept has a pass that says so: it asked for the key of the flight.
+pub fn a_pass_that_hit_is_told()
+    ensures { (budget f : ℕ) (journal : List Entry) (p : Facts) (u : Target) →
+        Legal budget journal → Allowed budget (after journal) (Hit p.query f) →
+        IsKept (after journal) f u → Knows journal p →
+        Knows (journal ++ Hit p.query f ∷ []) (hit_pass u.key p) }
 {}
