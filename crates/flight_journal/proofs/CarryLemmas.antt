@@ -1,16 +1,14 @@
 -- What an entry that names another query leaves of one query.
-use Rattle.std.proofs.Common.{◌≡◌, ◌≢◌, ◌⊎◌, ℕ, zero, suc, ◌+◌, ◌<◌, ◌==◌, ◌||◌, Bool, true, false, true≢false, not, cond, if◌then◌else◌, List, [], ◌∷◌, ◌++◌, map, length, Option, Some, None, slice_get, refl, sym, ap, ◌∙◌, inl, inr, ⊎_elim, arith, append-nil, append_assoc, add-zero, eq-eqb, ne_eqb}
+use Rattle.std.proofs.Common.{◌≡◌, ◌≢◌, ◌⊎◌, ℕ, ◌==◌, ◌||◌, Bool, true, false, true≢false, not, cond, List, [], ◌∷◌, ◌++◌, length, Some, None, slice_get, refl, sym, ap, ◌∙◌, inl, inr, ⊎_elim, arith, eq-eqb}
 use Rattle.std.specs.Option.{option_map}
 use Rattle.std.proofs.lemmas.Bool.{cases_eq}
 use Rattle.std.proofs.lemmas.Option.{slice_get_within}
-use Rattle.link_io.specs.declared.target.Key.{Key}
-use Rattle.link_io.specs.declared.target.Target.{Target}
 use Rattle.flight_journal.specs.declared.entry.Entry.{Entry}
 use Rattle.flight_journal.specs.declared.entry.Entry.TheVariants.{Opened, Began, Joined, Hit, Taken, Landed, Lost, Cancelled, Closed, Evicted, Refreshed, Abandoned}
-use Rattle.flight_journal.specs.State.{Phase, flying, landed, gone, Flight, State, IsFlight, is_one_of, all_but, is_landed, is_open, WaitsIn, IsOwed, joined, parted, came_to, ended, change}
+use Rattle.flight_journal.specs.State.{flying, gone, Flight, State, IsFlight, is_one_of, all_but, is_open, WaitsIn, IsOwed, joined, parted, came_to, ended, change}
 use Rattle.flight_journal.specs.Journal.{step, Allowed}
 use Rattle.flight_journal.specs.Count.{names}
-use Rattle.flight_journal.specs.Others.{GoesOn, FliesOn, IsLostBy}
+use Rattle.flight_journal.specs.Others.{FliesOn, IsLostBy}
 use Rattle.flight_journal.proofs.ListLemmas.{get_changed, get_unchanged, get_last, get_before_last, get_map, get_unset}
 
 -- two flights of one number are one

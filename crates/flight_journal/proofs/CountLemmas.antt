@@ -1,10 +1,9 @@
 -- What a journal counts of one query.
-use Rattle.std.proofs.Common.{◌≡◌, ◌≢◌, ◌⊎◌, ℕ, zero, suc, ◌+◌, ◌<◌, ◌≤◌, ◌==◌, ◌||◌, ◌&&◌, Bool, true, false, true≢false, not, if◌then◌else◌, List, [], ◌∷◌, ◌++◌, length, Option, Some, None, slice_get, refl, sym, ap, ◌∙◌, inl, inr, ⊎_elim, arith, append-nil, append_assoc, length-append, add-zero, eq-eqb}
+use Rattle.std.proofs.Common.{◌≡◌, ℕ, zero, suc, ◌+◌, ◌<◌, ◌≤◌, ◌==◌, Bool, true, false, true≢false, List, [], ◌∷◌, ◌++◌, length, Option, Some, None, slice_get, refl, sym, ap, ◌∙◌, arith, append-nil, append_assoc, length-append, add-zero, eq-eqb}
 use Rattle.std.proofs.lemmas.Option.{slice_get_within}
-use Rattle.link_io.specs.declared.target.Key.{Key}
 use Rattle.flight_journal.specs.declared.entry.Entry.{Entry}
 use Rattle.flight_journal.specs.declared.entry.Entry.TheVariants.{Opened, Began, Joined, Hit, Taken, Landed, Lost, Cancelled, Closed, Evicted, Refreshed, Abandoned}
-use Rattle.flight_journal.specs.State.{State, nothing, IsOpen, Flight, IsFlight}
+use Rattle.flight_journal.specs.State.{State, nothing, IsOpen, Flight}
 use Rattle.flight_journal.specs.Journal.{step, after_from, after, Allowed, LegalFrom, Legal}
 use Rattle.flight_journal.specs.Count.{Among, names, one_if, is_this, calls_of, loser_in, losses_of, asker_in, asked_of, key_in, only_if, asked_in, asks_from, is_wreck, wrecked_in, wrecks_from}
 use Rattle.flight_journal.proofs.ListLemmas.{none_in_nothing, length_more, length_set}

@@ -1,7 +1,7 @@
 -- Flights are numbered as they were begun, and where each holds its key, no key is begun twice.
-use Rattle.std.proofs.Common.{◌≡◌, ◌≢◌, ◌⊎◌, ℕ, zero, suc, ◌+◌, ◌==◌, ◌&&◌, Bool, true, false, true≢false, if◌then◌else◌, List, [], ◌∷◌, ◌++◌, length, map, Option, Some, None, slice_get, refl, sym, ap, ◌∙◌, subst, inl, inr, ⊎_elim, arith, append-nil, append_assoc, eq-eqb, ne_eqb}
+use Rattle.std.proofs.Common.{◌≡◌, ◌≢◌, ℕ, zero, suc, ◌==◌, ◌&&◌, Bool, true, false, true≢false, if◌then◌else◌, List, [], ◌∷◌, ◌++◌, map, Option, Some, None, slice_get, refl, sym, ap, ◌∙◌, subst, inl, inr, ⊎_elim, arith, append-nil, append_assoc, eq-eqb}
 use Rattle.std.specs.List.{list_all}
-use Rattle.std.specs.Option.{option_map, is_some}
+use Rattle.std.specs.Option.{option_map}
 use Rattle.std.proofs.lemmas.Bool.{cases_eq}
 use Rattle.std.proofs.lemmas.Option.{slice_get_within}
 use Rattle.shard_cache.specs.Recency.{is_listed, without, only}
@@ -9,12 +9,11 @@ use Rattle.shard_cache.proofs.OrderLemmas.{listed_behind, listed_in_first, liste
 use Rattle.link_io.specs.declared.target.Target.{Target}
 use Rattle.flight_journal.specs.declared.entry.Entry.{Entry}
 use Rattle.flight_journal.specs.declared.entry.Entry.TheVariants.{Opened, Began, Joined, Hit, Taken, Landed, Lost, Cancelled, Closed, Evicted, Refreshed, Abandoned}
-use Rattle.flight_journal.specs.State.{Phase, flying, landed, gone, Flight, State, nothing, IsFlight, Flies, IsKept, HoldsKey, joined, parted, came_to, ended, change}
+use Rattle.flight_journal.specs.State.{flying, Flight, State, nothing, IsFlight, Flies, IsKept, HoldsKey, joined, parted, came_to, ended, change}
 use Rattle.flight_journal.specs.Journal.{step, after_from, after, Allowed, LegalFrom, Legal}
 use Rattle.flight_journal.specs.Count.{begun_in, keeps_keys}
-use Rattle.flight_journal.proofs.ListLemmas.{none_in_nothing, get_changed, get_unchanged, get_last, get_before_last, get_map}
-use Rattle.flight_journal.proofs.CarryLemmas.{one_flight}
-use Rattle.flight_journal.proofs.LegalLemmas.{IsSound, sound_after, came_from, Older, Newer}
+use Rattle.flight_journal.proofs.ListLemmas.{none_in_nothing, get_changed, get_unchanged, get_before_last, get_map}
+use Rattle.flight_journal.proofs.LegalLemmas.{sound_after, came_from, Older, Newer}
 
 -- ---- flights are those that were begun, in order
 abbrev targets_of : List Flight → List Target

@@ -1,5 +1,5 @@
 -- What is so of each state behind a legal journal.
-use Rattle.std.proofs.Common.{◌≡◌, ◌≢◌, ◌⊎◌, ℕ, zero, suc, ◌+◌, ◌<◌, ◌≤◌, ◌==◌, ◌||◌, Bool, true, false, true≢false, not, cond, if◌then◌else◌, List, [], ◌∷◌, ◌++◌, map, length, Option, Some, None, slice_get, slice_set, refl, sym, ap, ◌∙◌, subst, inl, inr, ⊎_elim, arith, eq-eqb, ne_eqb}
+use Rattle.std.proofs.Common.{◌≡◌, ◌≢◌, ◌⊎◌, ℕ, ◌<◌, ◌==◌, ◌||◌, Bool, true, false, true≢false, not, cond, if◌then◌else◌, List, [], ◌∷◌, ◌++◌, map, length, Option, Some, None, slice_get, refl, sym, ap, ◌∙◌, subst, inl, inr, ⊎_elim, arith}
 use Rattle.std.specs.Option.{option_map}
 use Rattle.std.proofs.lemmas.Bool.{cases_eq}
 use Rattle.std.proofs.lemmas.Option.{slice_get_within}
@@ -8,9 +8,9 @@ use Rattle.shard_cache.proofs.OrderLemmas.{listed_behind}
 use Rattle.link_io.specs.declared.target.Target.{Target}
 use Rattle.flight_journal.specs.declared.entry.Entry.{Entry}
 use Rattle.flight_journal.specs.declared.entry.Entry.TheVariants.{Opened, Began, Joined, Hit, Taken, Landed, Lost, Cancelled, Closed, Evicted, Refreshed, Abandoned}
-use Rattle.flight_journal.specs.State.{Phase, flying, landed, gone, Flight, State, nothing, IsFlight, is_one_of, all_but, IsOpen, WaitsIn, IsOwed, Flies, IsKept, HoldsKey, joined, parted, came_to, ended, change}
+use Rattle.flight_journal.specs.State.{flying, landed, gone, Flight, State, nothing, IsFlight, is_one_of, all_but, IsOpen, WaitsIn, IsOwed, Flies, IsKept, HoldsKey, joined, parted, came_to, ended, change}
 use Rattle.flight_journal.specs.Journal.{step, after_from, after, Allowed, LegalFrom, Legal}
-use Rattle.flight_journal.proofs.ListLemmas.{get_changed, get_unchanged, get_last, get_before_last, get_map, get_set, get_unset, length_more, length_set}
+use Rattle.flight_journal.proofs.ListLemmas.{get_changed, get_unchanged, get_last, get_before_last, get_map, get_unset}
 use Rattle.flight_journal.proofs.CarryLemmas.{one_flight, one_of_all, over_stays}
 
 -- ---- where a flight behind an entry comes from
@@ -236,7 +236,7 @@ still_open budget q s (Refreshed g) may is = inl is
 still_open budget q s (Abandoned g) may is = inl is
 
 -- who leaves awaits no flight
-leaves_all : (s : State) (q f : ℕ) (y : Flight) → slice_get (map (parted q) s.flights) f ≡ Some y → is_one_of q y.queries ≡ true → ⊥
+pub leaves_all : (s : State) (q f : ℕ) (y : Flight) → slice_get (map (parted q) s.flights) f ≡ Some y → is_one_of q y.queries ≡ true → ⊥
 leaves_all s q f y known h =
     let m = map_some (parted q) (slice_get s.flights f) y (sym (get_map (parted q) s.flights f) ∙ known) in
     never_itself q m.0.queries (ap (λ (z : Flight). is_one_of q z.queries) (sym m.2) ∙ h)

@@ -1,5 +1,5 @@
 -- Two worked journals.
-use Rattle.std.specs.Prelude.{ℕ, List, [], ◌∷◌, Some, None}
+use Rattle.std.specs.Prelude.{ℕ, List, [], ◌∷◌, Some}
 use Rattle.link_io.specs.declared.target.Key.TheVariants as key
 use Rattle.link_io.specs.declared.target.Target.{Target}
 use Rattle.flight_journal.specs.declared.entry.Entry.{Entry}

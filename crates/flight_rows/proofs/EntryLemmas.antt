@@ -27,6 +27,7 @@ use Rattle.flight_journal.specs.Count.{begun_in}
 use Rattle.flight_rows.specs.Rows.{AtFits, RowFits, FlightFits, RowAt, RowsFit, KeysFit, Holds, Keeps, open_among, owed_by, owed_for, is_live}
 use Rattle.flight_rows.proofs.RowLemmas.{rows_change, keys_same, keys_add}
 use Rattle.flight_rows.proofs.WriteLemmas.{not_at, removed_again_by}
+use Rattle.flight_journal.proofs.FetchLemmas.{flights_are_begun}
 use Rattle.flight_journal.proofs.PushLemmas.{after_push, legal_push, begun_push}
 use Rattle.flight_rows.proofs.StateLemmas.{owed_change}
 use Rattle.flight_journal.proofs.ListLemmas.{length_more, get_changed, get_unchanged, length_change, get_last, get_before_last}
@@ -353,51 +354,13 @@ key_absent cmp s keys t fit new = split (get cmp keys t.key) refl
     split None e = refl
     split (Some f) e = let was = fit.found t.key f e in absurd (new_apart s t new f was.0 was.1 was.3 was.2)
 
--- as many flights as Began entries
-flights_step : (s : State) (e : Entry) → length (step s e).flights ≡ length s.flights + length (begun_in (e ∷ []))
-flights_step s (Opened q) = omega arith
-flights_step s (Began q f t) = length_more s.flights (record { target = t; phase = flying; queries = q ∷ [] })
-flights_step s (Joined q f) = let h = length_change f (joined q) s.flights in omega arith
-flights_step s (Hit q f) = omega arith
-flights_step s (Taken q f) = let h = length_change f (parted q) s.flights in omega arith
-flights_step s (Landed q f z) = let h = length_change f (came_to z q) s.flights in omega arith
-flights_step s (Lost q f) = let h = length_change f ended s.flights in omega arith
-flights_step s (Cancelled q) = let h = length-map s.flights (parted q) in omega arith
-flights_step s (Closed q) = let h = length-map s.flights (parted q) in omega arith
-flights_step s (Evicted f) = omega arith
-flights_step s (Refreshed f) = omega arith
-flights_step s (Abandoned f) = let h = length_change f ended s.flights in omega arith
-
-begun_cons : (e : Entry) (es : List Entry) → begun_in (e ∷ es) ≡ begun_in (e ∷ []) ++ begun_in es
-begun_cons (Began q f t) es = refl
-begun_cons (Opened q) es = refl
-begun_cons (Joined q f) es = refl
-begun_cons (Hit q f) es = refl
-begun_cons (Taken q f) es = refl
-begun_cons (Landed q f z) es = refl
-begun_cons (Lost q f) es = refl
-begun_cons (Cancelled q) es = refl
-begun_cons (Closed q) es = refl
-begun_cons (Evicted f) es = refl
-begun_cons (Refreshed f) es = refl
-begun_cons (Abandoned f) es = refl
-
-flights_count : (s : State) (es : List Entry) → length (after_from s es).flights ≡ length s.flights + length (begun_in es)
-unfolding after_from
-flights_count s [] = omega arith
-flights_count s (e ∷ es) =
-    let h = flights_count (step s e) es in
-    let k = flights_step s e in
-    let l : length (begun_in (e ∷ es)) ≡ length (begun_in (e ∷ [])) + length (begun_in es) = ap length (begun_cons e es) ∙ length-append (begun_in (e ∷ [])) (begun_in es) in
-    omega arith
-
 module _ {L V : Type 0} (Aimed : ℕ → Target → Packed L → Type 0) (Came_so : ℕ → Target → Option ℕ → V → Type 0) (cmp : Key → Key → Ordering) (keep : ℕ) (start dialed : List Target) (journal : List Entry) where
   pub dialed_count : (room : ℕ) (rows : BTreeMap ℕ (Row L V)) (keys : BTreeMap Key ℕ) (order : List (ℕ × ℕ)) (recent opened begun owed : ℕ)
       → Keeps Aimed Came_so cmp keep start dialed journal room rows keys order recent opened begun owed
       → length dialed ≡ length start + begun
   dialed_count room rows keys order recent opened begun owed keeps =
       let a = ap length keeps.dialed_so ∙ length-append start (begun_in journal) in
-      let b = flights_count nothing journal in
+      let b = sym (length-map (after journal).flights (λ x. x.target)) ∙ ap length (flights_are_begun journal) in
       let d = keeps.holds.begun_so in
       omega arith
 

@@ -1,5 +1,5 @@
 -- An entry that names another query, or none, leaves all that a pass says as it was.
-use Rattle.std.proofs.Common.{◌≡◌, ◌≢◌, ◌⊎◌, ℕ, zero, suc, ◌<◌, ◌==◌, ◌||◌, Bool, true, false, true≢false, List, [], ◌∷◌, ◌++◌, length, Option, Some, None, slice_get, refl, sym, ap, ◌∙◌, subst, inl, inr, ⊎_elim, arith, eq-eqb}
+use Rattle.std.proofs.Common.{◌≡◌, ◌≢◌, ◌⊎◌, ℕ, ◌<◌, ◌==◌, ◌||◌, Bool, true, false, true≢false, List, [], ◌∷◌, ◌++◌, length, Some, refl, sym, ap, ◌∙◌, subst, inl, inr, ⊎_elim, arith, eq-eqb}
 use Rattle.std.proofs.lemmas.Option.{slice_get_within}
 use Rattle.link_io.specs.declared.target.Target.{Target}
 use Rattle.flight_journal.specs.declared.entry.Entry.{Entry}
@@ -33,7 +33,8 @@ entered_more js e q f entered =
 behind : (js : List Entry) (e : Entry) (f : ℕ) (y : Flight) → IsFlight (step (after js) e) f y → IsFlight (after (js ++ e ∷ [])) f y
 behind js e f y there = subst (λ (s : State). IsFlight s f y) (sym (after_push js e)) there
 
-lost_more : (budget : ℕ) (js : List Entry) (e : Entry) (q f : ℕ) → Allowed budget (after js) e → WasLost js q f → WasLost (js ++ e ∷ []) q f
+-- a flight that another lost stays lost
+pub lost_more : (budget : ℕ) (js : List Entry) (e : Entry) (q f : ℕ) → Allowed budget (after js) e → WasLost js q f → WasLost (js ++ e ∷ []) q f
 lost_more budget js e q f may w =
     let y = gone_stays budget f (after js) e w.flight may w.there w.gone_now in
     record {
@@ -56,9 +57,9 @@ waits_on js e q f x y there on flies one =
     ⊎_elim
     (λ (same : y.phase ≡ x.phase). inl (y, there, same ∙ flies, on.awaited ∙ one))
     (λ (rest : ((x.phase ≡ flying) × (is_landed y.phase ≡ true)) ⊎ (x.queries ≡ [])). ⊎_elim
-        (λ (w : (x.phase ≡ flying) × (is_landed y.phase ≡ true)). inr (inl (y, there, w.1, on.awaited ∙ one)))
-        (λ (none : x.queries ≡ []). absurd (nobody q x one none))
-        rest)
+    (λ (w : (x.phase ≡ flying) × (is_landed y.phase ≡ true)). inr (inl (y, there, w.1, on.awaited ∙ one)))
+    (λ (none : x.queries ≡ []). absurd (nobody q x one none))
+    rest)
     on.phase
 
 owed_on : (js : List Entry) (e : Entry) (q f : ℕ) (x y : Flight) → IsFlight (after (js ++ e ∷ [])) f y → FliesOn q x y → is_landed x.phase ≡ true → is_one_of q x.queries ≡ true
@@ -67,12 +68,13 @@ owed_on js e q f x y there on landed_so one =
     ⊎_elim
     (λ (same : y.phase ≡ x.phase). (y, there, ap is_landed same ∙ landed_so, on.awaited ∙ one))
     (λ (rest : ((x.phase ≡ flying) × (is_landed y.phase ≡ true)) ⊎ (x.queries ≡ [])). ⊎_elim
-        (λ (w : (x.phase ≡ flying) × (is_landed y.phase ≡ true)). (y, there, w.1, on.awaited ∙ one))
-        (λ (none : x.queries ≡ []). absurd (nobody q x one none))
-        rest)
+    (λ (w : (x.phase ≡ flying) × (is_landed y.phase ≡ true)). (y, there, w.1, on.awaited ∙ one))
+    (λ (none : x.queries ≡ []). absurd (nobody q x one none))
+    rest)
     on.phase
 
-await_on : (budget : ℕ) (js : List Entry) (e : Entry) (q f : ℕ) (t : Target) → Allowed budget (after js) e → (a : IsAwait js q f t) → (y : Flight) → IsFlight (step (after js) e) f y → FliesOn q a.flight y → IsAwait (js ++ e ∷ []) q f t
+-- a flight that goes on for the query is still awaited
+pub await_on : (budget : ℕ) (js : List Entry) (e : Entry) (q f : ℕ) (t : Target) → Allowed budget (after js) e → (a : IsAwait js q f t) → (y : Flight) → IsFlight (step (after js) e) f y → FliesOn q a.flight y → IsAwait (js ++ e ∷ []) q f t
 await_on budget js e q f t may a y known on =
     let there = behind js e f y known in
     record {
@@ -82,14 +84,14 @@ await_on budget js e q f t may a y known on =
       plain = a.plain;
       entered = entered_more js e q f a.entered;
       stands = ⊎_elim
-        (λ (w : WaitsIn (after js) q f). let same = one_flight (after js) f w.0 a.flight w.1 a.there in
-        waits_on js e q f a.flight y there on (ap (λ (x : Flight). x.phase) (sym same) ∙ w.2) (ap (λ (x : Flight). is_one_of q x.queries) (sym same) ∙ w.3))
-        (λ (rest : IsOwed (after js) q f ⊎ WasLost js q f). ⊎_elim
-            (λ (o : IsOwed (after js) q f). let same = one_flight (after js) f o.0 a.flight o.1 a.there in
-            inr (inl (owed_on js e q f a.flight y there on (ap (λ (x : Flight). is_landed x.phase) (sym same) ∙ o.2) (ap (λ (x : Flight). is_one_of q x.queries) (sym same) ∙ o.3))))
-            (λ (l : WasLost js q f). inr (inr (lost_more budget js e q f may l)))
-            rest)
-        a.stands;
+          (λ (w : WaitsIn (after js) q f). let same = one_flight (after js) f w.0 a.flight w.1 a.there in
+          waits_on js e q f a.flight y there on (ap (λ (x : Flight). x.phase) (sym same) ∙ w.2) (ap (λ (x : Flight). is_one_of q x.queries) (sym same) ∙ w.3))
+          (λ (rest : IsOwed (after js) q f ⊎ WasLost js q f). ⊎_elim
+          (λ (o : IsOwed (after js) q f). let same = one_flight (after js) f o.0 a.flight o.1 a.there in
+          inr (inl (owed_on js e q f a.flight y there on (ap (λ (x : Flight). is_landed x.phase) (sym same) ∙ o.2) (ap (λ (x : Flight). is_one_of q x.queries) (sym same) ∙ o.3))))
+          (λ (l : WasLost js q f). inr (inr (lost_more budget js e q f may l)))
+          rest)
+          a.stands;
     }
 
 await_lost : (budget : ℕ) (js : List Entry) (e : Entry) (q f : ℕ) (t : Target) → Allowed budget (after js) e → IsAwait js q f t → IsLostBy q f e → IsAwait (js ++ e ∷ []) q f t
@@ -130,9 +132,9 @@ awaited_before : (budget q f : ℕ) (s : State) (e : Entry) (y : Flight) → All
 awaited_before budget q f s e y may h known alive one =
     ⊎_elim
     (λ (o : Older s e f y). ⊎_elim
-        (λ (before : is_one_of q o.flight.queries ≡ true). split o.flight o.there before o.flight.phase refl)
-        (λ (is : e ≡ Joined q f). absurd (not_joined q f e h is))
-        (o.was.awaited q one))
+    (λ (before : is_one_of q o.flight.queries ≡ true). split o.flight o.there before o.flight.phase refl)
+    (λ (is : e ≡ Joined q f). absurd (not_joined q f e h is))
+    (o.was.awaited q one))
     (λ (n : Newer s e f y). absurd (not_begun q n.by f n.target e h n.is (ap (λ (z : Flight). is_one_of q z.queries) (sym n.flight) ∙ one)))
     (came_from budget f s e y may known)
   where

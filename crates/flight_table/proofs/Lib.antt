@@ -1,2 +1,5 @@
 pub mod KnowLemmas
 pub mod TellLemmas
+pub mod NewLemmas
+pub mod CloseLemmas
+pub mod HitPassLemmas

@@ -1,10 +1,10 @@
 -- Calls of others leave all that a pass says as it was.
-use Rattle.std.proofs.Common.{◌≡◌, ◌≢◌, ◌⊎◌, ℕ, ◌||◌, Bool, true, false, true≢false, List, [], ◌∷◌, ◌++◌, length, Option, Some, None, refl, sym, ap, ◌∙◌, subst, ⊎_elim, append-nil, append_assoc}
+use Rattle.std.proofs.Common.{◌≡◌, ◌≢◌, ℕ, ◌||◌, Bool, true, false, true≢false, List, [], ◌∷◌, ◌++◌, length, Option, Some, refl, sym, ap, ◌∙◌, subst, ⊎_elim, append-nil, append_assoc}
 use Rattle.std.specs.List.{list_any}
 use Rattle.std.proofs.lemmas.Bool.{cases_eq}
 use Rattle.flight_journal.specs.declared.entry.Entry.{Entry}
 use Rattle.flight_journal.specs.State.{State, nothing}
-use Rattle.flight_journal.specs.Journal.{step, after_from, after, Allowed, LegalFrom, Legal}
+use Rattle.flight_journal.specs.Journal.{step, after_from, Allowed, LegalFrom, Legal}
 use Rattle.flight_journal.specs.Count.{names}
 use Rattle.flight_rows.specs.Sight.{Sight, IsSightSound, hand_in}
 use Rattle.flight_rows.specs.Serves.{Writes, HandsStay, HandMoves}
@@ -41,7 +41,7 @@ knows_on budget journal (e ∷ written) p legal others k =
 pub tells_on : (s t : Sight) (written : List Entry) (p : Facts) → Writes written s t → IsSightSound t → list_any (names p.query) written ≡ false → HoldsTheSame p.query s t → Tells s p → Tells t p
 tells_on s t written p writes sound others same k = record {
   knows = subst (λ (js : List Entry). Knows js p) (sym writes.journal)
-  (knows_on t.keep s.journal written p (subst (λ (js : List Entry). Legal t.keep js) writes.journal sound.legal) others k.knows);
+      (knows_on t.keep s.journal written p (subst (λ (js : List Entry). Legal t.keep js) writes.journal sound.legal) others k.knows);
   hand = λ f h. (same f).0 (k.hand f h);
   in_hand = λ f h. k.in_hand f ((same f).1 h);
   base = k.base ∙ ap length (sym writes.start);
@@ -55,8 +55,8 @@ pub same_where_moves : (q f : ℕ) (hand : Option ℕ) (s t : Sight) → HandMov
 same_where_moves q f hand s t moves before now g =
     ⊎_elim
     (λ (e : g ≡ f). (
-        (λ h. absurd (before (ap (hand_in s.hands) (sym e) ∙ h))),
-        (λ h. absurd (now (sym moves.here ∙ ap (hand_in t.hands) (sym e) ∙ h))),
+      (λ h. absurd (before (ap (hand_in s.hands) (sym e) ∙ h))),
+      (λ h. absurd (now (sym moves.here ∙ ap (hand_in t.hands) (sym e) ∙ h))),
     ))
     (λ (ne : g ≢ f). ((λ h. moves.others g ne ∙ h), λ h. sym (moves.others g ne) ∙ h))
     (cases_eq g f)

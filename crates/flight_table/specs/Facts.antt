@@ -1,5 +1,5 @@
 -- What a pass and a door say. They are plain data that contracts alone see.
-use Rattle.std.specs.Prelude.{ℕ, Bool, List, Option}
+use Rattle.std.specs.Prelude.{ℕ, ◌+◌, Bool, true, false, List, [], ◌∷◌, ◌++◌, Option, None}
 use Rattle.link_io.specs.Origin.{Origin}
 use Rattle.link_io.specs.declared.target.Key.{Key}
 use Rattle.link_io.specs.declared.target.Target.{Target}
@@ -20,3 +20,16 @@ pub record Facts : Type 0 where
   pub awaits : List (ℕ × Target)
   pub base : ℕ
   pub origin : Origin
+
+-- the pass of a query that has just opened
+abbrev pub new_pass : ℕ → ℕ → Origin → Facts
+new_pass query base origin =
+    record { query = query; calls = 1; live = true; asks = []; losses = 0; wrecks = []; lost = []; hand = None; awaits = []; base = base; origin = origin }
+
+-- the pass of a query that has just left
+abbrev pub left_pass : Facts → Facts
+left_pass p = record p { calls = p.calls + 1; live = false; awaits = [] }
+
+-- the pass of a query that has just taken what is kept under a key
+abbrev pub hit_pass : Key → Facts → Facts
+hit_pass key p = record p { calls = p.calls + 1; asks = p.asks ++ key ∷ [] }

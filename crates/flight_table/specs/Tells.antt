@@ -1,5 +1,5 @@
 -- What a pass says of the flights of a table.
-use Rattle.std.specs.Prelude.{◌≡◌, ℕ, length, Option, Some}
+use Rattle.std.specs.Prelude.{◌≡◌, ℕ, length, Some}
 use Rattle.flight_rows.specs.Sight.{Sight, hand_in}
 use Rattle.flight_table.specs.Facts.{Facts}
 use Rattle.flight_table.specs.Knows.{Knows}

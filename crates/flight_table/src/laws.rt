@@ -1,13 +1,17 @@
 //! The law that carries what a pass says over the calls of others.
 
-ghost use Rattle.std.specs.Prelude.{◌≡◌, ◌≢◌, ◌++◌, ◌∷◌, [], ℕ, List, Option, Some, None, false};
+ghost use Rattle.std.specs.Prelude.{◌≡◌, ◌≢◌, ◌++◌, ◌∷◌, [], ℕ, List, Option, Some, None, false, length};
 ghost use Rattle.std.specs.List.{list_any};
+ghost use Rattle.link_io.specs.Origin.{Origin};
+ghost use Rattle.link_io.specs.declared.target.Target.{Target};
 ghost use Rattle.flight_journal.specs.declared.entry.Entry.{Entry};
+ghost use Rattle.flight_journal.specs.declared.entry.Entry.TheVariants.{Opened, Hit};
+ghost use Rattle.flight_journal.specs.State.{IsKept};
 ghost use Rattle.flight_journal.specs.Journal.{after, Allowed, Legal};
 ghost use Rattle.flight_journal.specs.Count.{names};
 ghost use Rattle.flight_rows.specs.Sight.{Sight, IsSightSound, hand_in};
-ghost use Rattle.flight_rows.specs.Serves.{Writes, HandsStay, HandMoves};
-ghost use Rattle.flight_table.specs.Facts.{Facts};
+ghost use Rattle.flight_rows.specs.Serves.{Writes, HandsStay, HandMoves, IsLeaving};
+ghost use Rattle.flight_table.specs.Facts.{Facts, new_pass, left_pass, hit_pass};
 ghost use Rattle.flight_table.specs.Knows.{Knows};
 ghost use Rattle.flight_table.specs.Tells.{Tells, HoldsTheSame};
 
@@ -31,4 +35,26 @@ pub fn what_a_pass_tells_stays()
     ensures hands_stay { (q : ℕ) (s t : Sight) → HandsStay s t → HoldsTheSame q s t }
     ensures hand_moves { (q f : ℕ) (hand : Option ℕ) (s t : Sight) →
         HandMoves f hand s t → hand_in s.hands f ≢ Some q → hand ≢ Some q → HoldsTheSame q s t }
+{}
+
+/// A query that has just opened under the next number has a pass that says so.
+pub fn a_new_pass_is_told()
+    ensures { (budget q base : ℕ) (origin : Origin) (journal : List Entry) →
+        Legal budget journal → q ≡ length (after journal).live →
+        Knows (journal ++ Opened q ∷ []) (new_pass q base origin) }
+{}
+
+/// A query that closes or is cancelled has a pass that says so, and awaits nothing any more.
+pub fn a_pass_that_left_is_told()
+    ensures { (budget : ℕ) (journal : List Entry) (e : Entry) (p : Facts) →
+        Legal budget journal → Allowed budget (after journal) e → IsLeaving p.query e →
+        Knows journal p → Knows (journal ++ e ∷ []) (left_pass p) }
+{}
+
+/// A query that takes what is kept has a pass that says so: it asked for the key of the flight.
+pub fn a_pass_that_hit_is_told()
+    ensures { (budget f : ℕ) (journal : List Entry) (p : Facts) (u : Target) →
+        Legal budget journal → Allowed budget (after journal) (Hit p.query f) →
+        IsKept (after journal) f u → Knows journal p →
+        Knows (journal ++ Hit p.query f ∷ []) (hit_pass u.key p) }
 {}
