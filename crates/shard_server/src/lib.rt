@@ -4,9 +4,9 @@
 //! store as its files, where it tells them.
 #![tactic(auto)]
 
-mod answer;
+mod serving;
 
-pub use answer::{Served, answer};
+pub use serving::{Served, answer};
 
 #[cfg(test)]
 mod tests;
