@@ -3,9 +3,9 @@
 //! many of the fetches came to a shard. `bench_tool flight index TURNS < FILE` fetches the pieces as
 //! indexes instead (`bench/flight`).
 
-ghost use Rattle.std.specs.Prelude.{◌≡◌, false, IfOk};
+ghost use Rattle.std.specs.Prelude.{◌≡◌, ◌⊎◌, false, true, IfOk};
 ghost use Rattle.link_io.specs.Target.{IsPlain};
-ghost use Rattle.http_reply.specs.Going.{IsUndecided};
+ghost use Rattle.http_reply.specs.Going.{IsUndecided, IsDecided, IsGoing};
 
 use crate::shards::first_piece;
 use crate::words::Words;
@@ -79,6 +79,24 @@ fn has_value(verdict: &Verdict<ScriptConn>) -> bool {
     }
 }
 
+// One call more on a parcel that can go on; whether it came to something.
+fn is_over(alloc: Global, parcel: &mut Parcel<ScriptConn>) -> anyhow::Result<bool>
+    requires whole { parcel.old.broken ≡ false }
+    requires undecided { IsUndecided parcel.old }
+    ensures target { parcel.new.target ≡ parcel.old.target }
+    ensures going { IfOk result (λ over. over ≡ false → IsGoing parcel.new) }
+    ensures over { IfOk result (λ over.
+        over ≡ true → (parcel.new.broken ≡ true) ⊎ IsDecided parcel.new) }
+{
+    match advance(alloc, parcel) {
+        Progress::Took(_) => Ok(false),
+        Progress::NotYet => Ok(false),
+        Progress::Ready => Ok(true),
+        Progress::Failed => Ok(true),
+        Progress::Memory => Err(anyhow!("memory ran out")),
+    }
+}
+
 // The most calls of a fetch: one for the request, and those for 64 GiB.
 const CALLS: u64 = 4_194_304;
 
@@ -89,11 +107,8 @@ fn comes_to_value(alloc: Global, mut parcel: Parcel<ScriptConn>) -> anyhow::Resu
     requires plain { IsPlain parcel.target }
 {
     for _ in 0..CALLS {
-        match advance(alloc, &mut parcel) {
-            Progress::Took(_) => {}
-            Progress::NotYet => {}
-            Progress::Ready | Progress::Failed => return Ok(has_value(&*judge(alloc, parcel)?)),
-            Progress::Memory => return Err(anyhow!("memory ran out")),
+        if is_over(alloc, &mut parcel)? {
+            return Ok(has_value(&*judge(alloc, parcel)?));
         }
     }
     Err(anyhow!("a fetch has no end"))

@@ -1,8 +1,8 @@
 //! Replies for an index and for a shard, given in pieces, and what each flight comes to.
 
-ghost use Rattle.std.specs.Prelude.{◌≡◌, false, IfOk};
+ghost use Rattle.std.specs.Prelude.{◌≡◌, ◌⊎◌, false, true, IfOk};
 ghost use Rattle.link_io.specs.Target.{IsPlain};
-ghost use Rattle.http_reply.specs.Going.{IsUndecided};
+ghost use Rattle.http_reply.specs.Going.{IsUndecided, IsDecided, IsGoing};
 
 use super::*;
 use Wanted::{Absent, BadReply, Base, Format, Index, OtherDigest, Shard, Status, TooLong};
@@ -283,6 +283,24 @@ fn begun(
     Ok(Parcel::new(alloc, target, link))
 }
 
+// One call more on a parcel that can go on; whether it came to something.
+fn is_over(alloc: Global, parcel: &mut Parcel<ScriptConn>) -> Result<bool, Fail>
+    requires whole { parcel.old.broken ≡ false }
+    requires undecided { IsUndecided parcel.old }
+    ensures target { parcel.new.target ≡ parcel.old.target }
+    ensures going { IfOk result (λ over. over ≡ false → IsGoing parcel.new) }
+    ensures over { IfOk result (λ over.
+        over ≡ true → (parcel.new.broken ≡ true) ⊎ IsDecided parcel.new) }
+{
+    match advance(alloc, parcel) {
+        Progress::Took(_) => Ok(false),
+        Progress::NotYet => Ok(false),
+        Progress::Ready => Ok(true),
+        Progress::Failed => Ok(true),
+        Progress::Memory => Err(AllocError.into()),
+    }
+}
+
 // The most calls of a flight.
 const CALLS: u64 = 100_000;
 
@@ -293,11 +311,8 @@ fn fly(alloc: Global, mut parcel: Parcel<ScriptConn>) -> Result<Arc<Verdict<Scri
     requires plain { IsPlain parcel.target }
 {
     for _ in 0..CALLS {
-        match advance(alloc, &mut parcel) {
-            Progress::Took(_) => {}
-            Progress::NotYet => {}
-            Progress::Ready | Progress::Failed => return Ok(judge(alloc, parcel)?),
-            Progress::Memory => return Err(AllocError.into()),
+        if is_over(alloc, &mut parcel)? {
+            return Ok(judge(alloc, parcel)?);
         }
     }
     Err("it goes on and on".into())
