@@ -88,9 +88,9 @@ impl<D: Dial, V: Landed> Flights<D, V> {
     // A flight that a key leads to.
     fn found(&self, key: &Key, f: u64) -> Found
         requires { (is_listed f (after self.now.journal).kept ≡ true →
-                FindsKey key.now (after self.now.journal) (Kept f))
+            FindsKey key.now (after self.now.journal) (Kept f))
             × (is_listed f (after self.now.journal).kept ≡ false →
-                FindsKey key.now (after self.now.journal) (Flying f)) }
+            FindsKey key.now (after self.now.journal) (Flying f)) }
         ensures { FindsKey key.now (after self.now.journal) result }
     {
         if self.is_kept(f) {
@@ -117,7 +117,7 @@ impl<D: Dial, V: Landed> Flights<D, V> {
         ensures ok { IfOk result (λ v. Writes (Hit query f ∷ []) self.old self.new
             × HandsStay self.old self.new
             × HasKept (Comes V.key V.size V.number V.from (length self.old.start) self.old.origin f)
-                f self.old v.value) }
+            f self.old v.value) }
         ensures err { OnErr result (self.new ≡ self.old) }
     {
         self.journal.reserve(self.owed.saturating_add(1))?;

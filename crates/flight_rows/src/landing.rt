@@ -38,7 +38,7 @@ impl<D: Dial, V: Landed> Flights<D, V> {
         requires held { hand_in self.old.hands f ≡ Some query }
         requires comes { (t : Target) → Flies (after self.old.journal) f t →
             Comes V.key V.size V.number V.from (length self.old.start) self.old.origin f t
-                (V.size value.value) value.value }
+            (V.size value.value) value.value }
         ensures writes { Lands query f (V.size value.value) self.old self.new }
         ensures hand { HandMoves f None self.old self.new }
     {
@@ -54,7 +54,7 @@ impl<D: Dial, V: Landed> Flights<D, V> {
         requires held { hand_in self.old.hands f ≡ Some query }
         requires comes { (t : Target) → Flies (after self.old.journal) f t →
             Comes V.key V.size V.number V.from (length self.old.start) self.old.origin f t
-                None value.value }
+            None value.value }
         ensures writes { Lands query f None self.old self.new }
         ensures hand { HandMoves f None self.old self.new }
     {
@@ -71,7 +71,7 @@ impl<D: Dial, V: Landed> Flights<D, V> {
         requires held { hand_in self.old.hands f ≡ Some query }
         requires comes { (t : Target) → Flies (after self.old.journal) f t →
             Comes V.key V.size V.number V.from (length self.old.start) self.old.origin f t
-                (Some size) value.value }
+            (Some size) value.value }
         ensures writes { Lands query f (Some size) self.old self.new }
         ensures hand { HandMoves f None self.old self.new }
     {

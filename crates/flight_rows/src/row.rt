@@ -295,7 +295,7 @@ pub(crate) fn part_each<L: Conn, V: Landed>(
     requires rising { IsStrictlyIncreasing flights.now }
     ensures parted { (n : ℕ) → n < length flights.now →
         Parts query (get nat_cmp rows.old (slice_index flights.now n))
-            (get nat_cmp rows.new (slice_index flights.now n)) }
+        (get nat_cmp rows.new (slice_index flights.now n)) }
     ensures others { (g : ℕ) → ((n : ℕ) → n < length flights.now → slice_index flights.now n ≢ g) →
         get nat_cmp rows.new g ≡ get nat_cmp rows.old g }
 {

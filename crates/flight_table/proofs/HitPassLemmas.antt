@@ -22,7 +22,7 @@ knows_hit budget f js p u legal may kept k =
     let one : one_if (names q e) ≡ 1 = ap one_if own in
     let known = k.calls in
     let key : asked_in q (after js) e ≡ u.key ∷ [] =
-        ap (λ (o : Option Flight). only_if (q == q) (key_in o)) kept.1 ∙ ap (λ b. only_if b (kept.0.target.key ∷ [])) own ∙ ap (λ (t : Target). t.key ∷ []) kept.3 in
+    ap (λ (o : Option Flight). only_if (q == q) (key_in o)) kept.1 ∙ ap (λ b. only_if b (kept.0.target.key ∷ [])) own ∙ ap (λ (t : Target). t.key ∷ []) kept.3 in
     record {
       entered = omega arith;
       calls = omega arith;
