@@ -30,7 +30,8 @@ entered_more js e q f entered =
     (λ (w : Among (Joined q f) js). inr (among_more (Joined q f) e js w))
     entered
 
-behind : (js : List Entry) (e : Entry) (f : ℕ) (y : Flight) → IsFlight (step (after js) e) f y → IsFlight (after (js ++ e ∷ [])) f y
+-- a flight of the state behind one entry more
+pub behind : (js : List Entry) (e : Entry) (f : ℕ) (y : Flight) → IsFlight (step (after js) e) f y → IsFlight (after (js ++ e ∷ [])) f y
 behind js e f y there = subst (λ (s : State). IsFlight s f y) (sym (after_push js e)) there
 
 -- a flight that another lost stays lost

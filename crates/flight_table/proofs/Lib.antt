@@ -3,3 +3,4 @@ pub mod TellLemmas
 pub mod NewLemmas
 pub mod CloseLemmas
 pub mod HitPassLemmas
+pub mod AwaitLemmas

@@ -33,3 +33,8 @@ left_pass p = record p { calls = p.calls + 1; live = false; awaits = [] }
 -- the pass of a query that has just taken what is kept under a key
 abbrev pub hit_pass : Key → Facts → Facts
 hit_pass key p = record p { calls = p.calls + 1; asks = p.asks ++ key ∷ [] }
+
+-- the pass of a query that has just begun or joined a flight for a target
+abbrev pub awaiting_pass : ℕ → Target → Facts → Facts
+awaiting_pass f target p =
+    record p { calls = p.calls + 1; asks = p.asks ++ target.key ∷ []; awaits = p.awaits ++ (f, target) ∷ [] }

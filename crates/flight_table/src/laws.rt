@@ -3,15 +3,16 @@
 ghost use Rattle.std.specs.Prelude.{◌≡◌, ◌≢◌, ◌++◌, ◌∷◌, [], ℕ, List, Option, Some, None, false, length};
 ghost use Rattle.std.specs.List.{list_any};
 ghost use Rattle.link_io.specs.Origin.{Origin};
+ghost use Rattle.link_io.specs.Target.{IsPlain};
 ghost use Rattle.link_io.specs.declared.target.Target.{Target};
 ghost use Rattle.flight_journal.specs.declared.entry.Entry.{Entry};
-ghost use Rattle.flight_journal.specs.declared.entry.Entry.TheVariants.{Opened, Hit};
-ghost use Rattle.flight_journal.specs.State.{IsKept};
+ghost use Rattle.flight_journal.specs.declared.entry.Entry.TheVariants.{Opened, Began, Joined, Hit};
+ghost use Rattle.flight_journal.specs.State.{Flies, IsKept};
 ghost use Rattle.flight_journal.specs.Journal.{after, Allowed, Legal};
 ghost use Rattle.flight_journal.specs.Count.{names};
 ghost use Rattle.flight_rows.specs.Sight.{Sight, IsSightSound, hand_in};
 ghost use Rattle.flight_rows.specs.Serves.{Writes, HandsStay, HandMoves, IsLeaving};
-ghost use Rattle.flight_table.specs.Facts.{Facts, new_pass, left_pass, hit_pass};
+ghost use Rattle.flight_table.specs.Facts.{Facts, new_pass, left_pass, hit_pass, awaiting_pass};
 ghost use Rattle.flight_table.specs.Knows.{Knows};
 ghost use Rattle.flight_table.specs.Tells.{Tells, HoldsTheSame};
 
@@ -57,4 +58,16 @@ pub fn a_pass_that_hit_is_told()
         Legal budget journal → Allowed budget (after journal) (Hit p.query f) →
         IsKept (after journal) f u → Knows journal p →
         Knows (journal ++ Hit p.query f ∷ []) (hit_pass u.key p) }
+{}
+
+/// A query that begins or joins a flight for a plain target has a pass that says so: it asked for the
+/// target's key, and awaits the flight.
+pub fn a_pass_that_awaits_is_told()
+    ensures begun { (budget f : ℕ) (journal : List Entry) (p : Facts) (u : Target) →
+        Allowed budget (after journal) (Began p.query f u) → IsPlain u → Knows journal p →
+        Knows (journal ++ Began p.query f u ∷ []) (awaiting_pass f u p) }
+    ensures joined { (budget f : ℕ) (journal : List Entry) (p : Facts) (u : Target) →
+        Allowed budget (after journal) (Joined p.query f) → Flies (after journal) f u →
+        IsPlain u → Knows journal p →
+        Knows (journal ++ Joined p.query f ∷ []) (awaiting_pass f u p) }
 {}
