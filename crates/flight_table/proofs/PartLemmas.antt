@@ -1,20 +1,19 @@
 -- What the pass of a query says that has just taken a value, or landed or lost a flight.
-use Rattle.std.proofs.Common.{◌≡◌, ◌≢◌, ◌⊎◌, ℕ, ◌+◌, ◌<◌, ◌==◌, ◌||◌, Bool, true, false, true≢false, List, [], ◌∷◌, ◌++◌, length, Option, Some, None, slice_get, refl, sym, ap, ◌∙◌, subst, inl, inr, ⊎_elim, arith, append-nil, add-zero, eq-eqb}
+use Rattle.std.proofs.Common.{◌≡◌, ◌≢◌, ◌⊎◌, ℕ, ◌+◌, ◌==◌, true, true≢false, List, [], ◌∷◌, ◌++◌, Option, Some, None, slice_get, refl, sym, ap, ◌∙◌, subst, inl, inr, ⊎_elim, arith, append-nil, add-zero, eq-eqb}
 use Rattle.std.specs.Option.{option_map}
 use Rattle.std.proofs.lemmas.Bool.{cases_eq}
-use Rattle.link_io.specs.declared.target.Key.{Key}
 use Rattle.link_io.specs.declared.target.Target.{Target}
 use Rattle.flight_journal.specs.declared.entry.Entry.{Entry}
 use Rattle.flight_journal.specs.declared.entry.Entry.TheVariants.{Taken, Landed, Lost}
-use Rattle.flight_journal.specs.State.{State, Flight, nothing, is_one_of, all_but, WaitsIn, IsOwed, parted, came_to, ended, change, is_open}
+use Rattle.flight_journal.specs.State.{State, Flight, nothing, is_one_of, WaitsIn, IsOwed, parted, came_to, ended, change, is_open}
 use Rattle.flight_journal.specs.Journal.{after, step, Allowed}
-use Rattle.flight_journal.specs.Count.{Among, one_if, is_this, loser_in, calls_of, losses_of, only_if, is_wreck, asked_in, asks_from, wrecked_in, wrecks_from}
+use Rattle.flight_journal.specs.Count.{one_if, calls_of, losses_of, only_if, is_wreck, asks_from, wrecks_from}
 use Rattle.flight_journal.proofs.PushLemmas.{after_push}
 use Rattle.flight_journal.proofs.ListLemmas.{get_changed, get_unchanged}
 use Rattle.flight_journal.proofs.CountLemmas.{calls_push, losses_push, asks_push, wrecks_push}
 use Rattle.flight_journal.proofs.LegalLemmas.{never_itself}
 use Rattle.flight_table.specs.Facts.{Facts, taken_pass, landed_pass, lost_pass, IsWithout}
-use Rattle.flight_table.specs.Knows.{IsAwait, Knows}
+use Rattle.flight_table.specs.Knows.{Knows}
 use Rattle.flight_table.proofs.KnowLemmas.{lost_more, await_on}
 
 -- what the entry does: the query awaits this flight no more, and all others are as they were
@@ -44,11 +43,11 @@ knows_parting budget f js e p wrecks losses rest hand may a without k =
       lost_apart = λ g t among. k.lost_apart g t (without.only g t among).0;
       awaits_once = without.once;
       awaits = λ g t among. let was = without.only g t among in let old = k.awaits g t was.0 in
-        await_on budget js e p.query g t may old old.flight (a.others g was.1 ∙ old.there) (record { target = refl; awaited = refl; phase = inl refl });
+          await_on budget js e p.query g t may old old.flight (a.others g was.1 ∙ old.there) (record { target = refl; awaited = refl; phase = inl refl });
       all_awaits = λ g either. let now = subst (λ (s : State). WaitsIn s p.query g ⊎ IsOwed s p.query g) (after_push js e) either in ⊎_elim
-        (λ (i : g ≡ f). absurd (nobody g i now))
-        (λ (ne : g ≢ f). let w = k.all_awaits g (before g ne now) in (w.0, without.same g w.0 ne w.1))
-        (cases_eq g f);
+          (λ (i : g ≡ f). absurd (nobody g i now))
+          (λ (ne : g ≢ f). let w = k.all_awaits g (before g ne now) in (w.0, without.same g w.0 ne w.1))
+          (cases_eq g f);
     }
   where
     nobody : (g : ℕ) → g ≡ f → WaitsIn (step (after js) e) p.query g ⊎ IsOwed (step (after js) e) p.query g → ⊥
@@ -57,6 +56,7 @@ knows_parting budget f js e p wrecks losses rest hand may a without k =
         (λ (w : WaitsIn (step (after js) e) p.query g). a.alone w.0 (ap (slice_get (step (after js) e).flights) (sym i) ∙ w.1) w.3)
         (λ (o : IsOwed (step (after js) e) p.query g). a.alone o.0 (ap (slice_get (step (after js) e).flights) (sym i) ∙ o.1) o.3)
         either
+
     before : (g : ℕ) → g ≢ f → WaitsIn (step (after js) e) p.query g ⊎ IsOwed (step (after js) e) p.query g → WaitsIn (after js) p.query g ⊎ IsOwed (after js) p.query g
     before g ne either =
         ⊎_elim
@@ -79,6 +79,7 @@ knows_lost budget f js p rest may without k =
   where
     own : (p.query == p.query) ≡ true
     own = eq-eqb p.query p.query refl
+
     facts : Parts js (Lost p.query f) p.query f [] 1
     facts = record {
       others = λ g ne. get_unchanged f g ended (after js).flights ne;
@@ -97,6 +98,7 @@ knows_landed budget f None js p rest may without k =
   where
     own : (p.query == p.query) ≡ true
     own = eq-eqb p.query p.query refl
+
     facts : Parts js (Landed p.query f None) p.query f (f ∷ []) 0
     facts = record {
       others = λ g ne. get_unchanged f g (came_to None p.query) (after js).flights ne;
@@ -113,6 +115,7 @@ knows_landed budget f (Some size) js p rest may without k =
   where
     own : (p.query == p.query) ≡ true
     own = eq-eqb p.query p.query refl
+
     facts : Parts js (Landed p.query f (Some size)) p.query f [] 0
     facts = record {
       others = λ g ne. get_unchanged f g (came_to (Some size) p.query) (after js).flights ne;
@@ -132,6 +135,7 @@ knows_taken budget f js p rest may without k =
   where
     own : (p.query == p.query) ≡ true
     own = eq-eqb p.query p.query refl
+
     facts : Parts js (Taken p.query f) p.query f (only_if (is_wreck (slice_get (after js).flights f)) (f ∷ [])) 0
     facts = record {
       others = λ g ne. get_unchanged f g (parted p.query) (after js).flights ne;

@@ -76,7 +76,7 @@ pub fn a_pass_that_awaits_is_told()
 /// rest.
 pub fn a_pass_that_parts_is_told()
     ensures landed { (budget f : ℕ) (size : Option ℕ) (journal : List Entry) (p : Facts)
-            (rest : List (ℕ × Target)) →
+        (rest : List (ℕ × Target)) →
         Allowed budget (after journal) (Landed p.query f size) → IsWithout f p.awaits rest →
         Knows journal p →
         Knows (journal ++ Landed p.query f size ∷ []) (landed_pass f size rest p) }
@@ -86,5 +86,5 @@ pub fn a_pass_that_parts_is_told()
     ensures taken { (budget f : ℕ) (journal : List Entry) (p : Facts) (rest : List (ℕ × Target)) →
         Allowed budget (after journal) (Taken p.query f) → IsWithout f p.awaits rest →
         Knows journal p → Knows (journal ++ Taken p.query f ∷ [])
-            (taken_pass (only_if (is_wreck (slice_get (after journal).flights f)) (f ∷ [])) rest p) }
+        (taken_pass (only_if (is_wreck (slice_get (after journal).flights f)) (f ∷ [])) rest p) }
 {}
