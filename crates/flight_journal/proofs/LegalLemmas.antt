@@ -209,7 +209,7 @@ sized_step budget s e may sound f h = ⊎_elim old (new e may) (kept_from s e f 
     new e' may' k = subst (λ (x : Entry). Allowed budget s x → sized_flight (step s x) f) (sym k.2) (λ (m : Allowed budget s (Landed k.0 f (Some k.1))). let w = m.2 in (k.1, came_to (Some k.1) k.0 w.0, get_changed f (came_to (Some k.1) k.0) s.flights ∙ ap (option_map (came_to (Some k.1) k.0)) w.1, refl)) may'
 
 -- ---- who is open
-never_itself : (q : ℕ) (xs : List ℕ) → is_one_of q (all_but q xs) ≡ true → ⊥
+pub never_itself : (q : ℕ) (xs : List ℕ) → is_one_of q (all_but q xs) ≡ true → ⊥
 never_itself q [] h = true≢false (sym h)
 never_itself q (x ∷ xs) h = split (x == q) refl (never_itself q xs) h
   where

@@ -1,16 +1,16 @@
 -- What the pass of a query says that has just begun or joined a flight.
-use Rattle.std.proofs.Common.{◌≡◌, ◌≢◌, ◌⊎◌, ℕ, zero, suc, ◌+◌, ◌<◌, ◌==◌, ◌||◌, Bool, true, false, true≢false, List, [], ◌∷◌, ◌++◌, length, map, Option, Some, None, slice_get, refl, sym, ap, ◌∙◌, subst, inl, inr, ⊎_elim, arith, append-nil, add-zero, eq-eqb}
+use Rattle.std.proofs.Common.{◌≡◌, ◌≢◌, ◌⊎◌, ℕ, zero, suc, ◌+◌, ◌<◌, ◌==◌, ◌||◌, Bool, true, false, true≢false, List, [], ◌∷◌, ◌++◌, length, map, Option, Some, slice_get, refl, sym, ap, ◌∙◌, subst, inl, inr, ⊎_elim, arith, append-nil, add-zero, eq-eqb}
 use Rattle.std.specs.Option.{option_map}
 use Rattle.std.proofs.lemmas.Bool.{cases_eq}
-use Rattle.std.proofs.lemmas.Option.{slice_get_within, slice_get_past}
+use Rattle.std.proofs.lemmas.Option.{slice_get_within}
 use Rattle.link_io.specs.Target.{IsPlain}
 use Rattle.link_io.specs.declared.target.Key.{Key}
 use Rattle.link_io.specs.declared.target.Target.{Target}
 use Rattle.flight_journal.specs.declared.entry.Entry.{Entry}
 use Rattle.flight_journal.specs.declared.entry.Entry.TheVariants.{Began, Joined}
-use Rattle.flight_journal.specs.State.{Phase, flying, landed, gone, State, Flight, nothing, IsFlight, is_one_of, is_landed, WaitsIn, IsOwed, Flies, joined, change, is_open}
-use Rattle.flight_journal.specs.Journal.{after, step, Allowed, Legal}
-use Rattle.flight_journal.specs.Count.{Among, IsOnce, names, one_if, calls_of, losses_of, key_in, only_if, asked_in, asks_from, wrecks_from}
+use Rattle.flight_journal.specs.State.{Phase, flying, gone, State, Flight, nothing, IsFlight, is_one_of, is_landed, WaitsIn, IsOwed, Flies, joined, is_open}
+use Rattle.flight_journal.specs.Journal.{after, step, Allowed}
+use Rattle.flight_journal.specs.Count.{Among, IsOnce, one_if, calls_of, losses_of, key_in, only_if, asked_in, asks_from, wrecks_from}
 use Rattle.flight_journal.proofs.PushLemmas.{after_push}
 use Rattle.flight_journal.proofs.ListLemmas.{none_in_nothing, get_changed, get_unchanged, get_last, get_before_last}
 use Rattle.flight_journal.proofs.CarryLemmas.{one_flight}
@@ -35,17 +35,18 @@ once_more : {X : Type 0} (x : X) (xs : List X) → IsOnce xs → ¬ Among x xs �
 once_more {X} x xs once apart here there y h k =
     ⊎_elim
     (λ (e : here ≡ length xs). ⊎_elim
-        (λ (d : there ≡ length xs). e ∙ sym d)
-        (λ (ne : there ≢ length xs). absurd (apart (there, before there y ne k ∙ ap Some (sym (last here y e h)))))
-        (cases_eq there (length xs)))
+    (λ (d : there ≡ length xs). e ∙ sym d)
+    (λ (ne : there ≢ length xs). absurd (apart (there, before there y ne k ∙ ap Some (sym (last here y e h)))))
+    (cases_eq there (length xs)))
     (λ (ne : here ≢ length xs). ⊎_elim
-        (λ (d : there ≡ length xs). absurd (apart (here, before here y ne h ∙ ap Some (sym (last there y d k)))))
-        (λ (nd : there ≢ length xs). once here there y (before here y ne h) (before there y nd k))
-        (cases_eq there (length xs)))
+    (λ (d : there ≡ length xs). absurd (apart (here, before here y ne h ∙ ap Some (sym (last there y d k)))))
+    (λ (nd : there ≢ length xs). once here there y (before here y ne h) (before there y nd k))
+    (cases_eq there (length xs)))
     (cases_eq here (length xs))
   where
     before : (n : ℕ) (z : X) → n ≢ length xs → slice_get (xs ++ x ∷ []) n ≡ Some z → slice_get xs n ≡ Some z
     before n z ne g = sym (get_before_last xs x n ne) ∙ g
+
     last : (n : ℕ) (z : X) → n ≡ length xs → slice_get (xs ++ x ∷ []) n ≡ Some z → x ≡ z
     last n z e g = one (sym (get_last xs x) ∙ ap (slice_get (xs ++ x ∷ [])) (sym e) ∙ g)
       where
@@ -101,27 +102,29 @@ knows_awaiting budget js e f u p may plain a apart kept k =
       lost = λ g among. lost_more budget js e p.query g may (k.lost g among);
       lost_once = k.lost_once;
       lost_apart = λ g t among in_lost. ⊎_elim
-        (λ (before : Among (g, t) p.awaits). k.lost_apart g t before in_lost)
-        (λ (same : (f, u) ≡ (g, t)). kept (subst (λ n. Among n p.lost) (sym (ap (λ (z : ℕ × Target). z.0) same)) in_lost))
-        (last_or_before (f, u) (g, t) p.awaits among);
+          (λ (before : Among (g, t) p.awaits). k.lost_apart g t before in_lost)
+          (λ (same : (f, u) ≡ (g, t)). kept (subst (λ n. Among n p.lost) (sym (ap (λ (z : ℕ × Target). z.0) same)) in_lost))
+          (last_or_before (f, u) (g, t) p.awaits among);
       awaits_once = subst IsOnce (sym (numbers_more f u p.awaits)) (once_more f (map (λ b. b.0) p.awaits) k.awaits_once (λ among. let w = number_stands f p.awaits among in apart w.0 w.1));
       awaits = λ g t among. ⊎_elim
-        (λ (before : Among (g, t) p.awaits). still g t before)
-        (λ (same : (f, u) ≡ (g, t)). subst (λ (z : ℕ × Target). IsAwait (js ++ e ∷ []) p.query z.0 z.1) same new)
-        (last_or_before (f, u) (g, t) p.awaits among);
+          (λ (before : Among (g, t) p.awaits). still g t before)
+          (λ (same : (f, u) ≡ (g, t)). subst (λ (z : ℕ × Target). IsAwait (js ++ e ∷ []) p.query z.0 z.1) same new)
+          (last_or_before (f, u) (g, t) p.awaits among);
       all_awaits = λ g either. ⊎_elim
-        (λ (i : g ≡ f). (u, (length p.awaits, get_last p.awaits (f, u) ∙ ap (λ n. Some (n, u)) (sym i))))
-        (λ (ne : g ≢ f). let w = k.all_awaits g (before g ne (subst (λ (s : State). WaitsIn s p.query g ⊎ IsOwed s p.query g) (after_push js e) either)) in (w.0, among_before (f, u) (g, w.0) p.awaits w.1))
-        (cases_eq g f);
+          (λ (i : g ≡ f). (u, (length p.awaits, get_last p.awaits (f, u) ∙ ap (λ n. Some (n, u)) (sym i))))
+          (λ (ne : g ≢ f). let w = k.all_awaits g (before g ne (subst (λ (s : State). WaitsIn s p.query g ⊎ IsOwed s p.query g) (after_push js e) either)) in (w.0, among_before (f, u) (g, w.0) p.awaits w.1))
+          (cases_eq g f);
     }
   where
     new : IsAwait (js ++ e ∷ []) p.query f u
     new = record { flight = a.flight; there = behind js e f a.flight a.there; target = a.target; plain = plain; entered = a.entered; stands = inl (a.flight, behind js e f a.flight a.there, a.flies, a.one) }
+
     still : (g : ℕ) (t : Target) → Among (g, t) p.awaits → IsAwait (js ++ e ∷ []) p.query g t
     still g t among =
         let old = k.awaits g t among in
         let ne : g ≢ f = λ i. apart t (subst (λ n. Among (n, t) p.awaits) i among) in
         await_on budget js e p.query g t may old old.flight (a.others g ne ∙ old.there) (record { target = refl; awaited = refl; phase = inl refl })
+
     before : (g : ℕ) → g ≢ f → WaitsIn (step (after js) e) p.query g ⊎ IsOwed (step (after js) e) p.query g → WaitsIn (after js) p.query g ⊎ IsOwed (after js) p.query g
     before g ne either =
         ⊎_elim
@@ -153,14 +156,19 @@ knows_joined budget f js p u may flies plain k =
   where
     not_owed : IsOwed (after js) p.query f → ⊥
     not_owed o = landed_flies_not o.0.phase o.2 (ap (λ (x : Flight). x.phase) (one_flight (after js) f o.0 flies.0 o.1 flies.1) ∙ flies.2)
+
     not_lost : WasLost js p.query f → ⊥
     not_lost l = flying≢gone (sym flies.2 ∙ ap (λ (x : Flight). x.phase) (one_flight (after js) f flies.0 l.flight flies.1 l.there) ∙ l.gone_now)
+
     stranger : WaitsIn (after js) p.query f ⊎ (IsOwed (after js) p.query f ⊎ WasLost js p.query f) → ⊥
     stranger w = ⊎_elim may.3 (λ (rest : IsOwed (after js) p.query f ⊎ WasLost js p.query f). ⊎_elim not_owed not_lost rest) w
+
     own : (p.query == p.query) ≡ true
     own = eq-eqb p.query p.query refl
+
     key : asked_in p.query (after js) (Joined p.query f) ≡ u.key ∷ []
     key = ap (λ (o : Option Flight). only_if (p.query == p.query) (key_in o)) flies.1 ∙ ap (λ b. only_if b (flies.0.target.key ∷ [])) own ∙ ap (λ (t : Target). t.key ∷ []) flies.3
+
     facts : Awaits js (Joined p.query f) p.query f u
     facts = record {
       flight = joined p.query flies.0;
@@ -189,8 +197,10 @@ knows_begun budget f js p u may plain k =
       where
         past : (m n : ℕ) → m ≡ n → m < n → ⊥
         past m n same less = let bad : ⊥ = omega arith in bad
+
     own : (p.query == p.query) ≡ true
     own = eq-eqb p.query p.query refl
+
     facts : Awaits js (Began p.query f u) p.query f u
     facts = record {
       flight = record { target = u; phase = flying; queries = p.query ∷ [] };

@@ -1,16 +1,16 @@
 -- What the pass of a query says that has just taken what is kept.
-use Rattle.std.proofs.Common.{◌≡◌, ◌⊎◌, ℕ, ◌+◌, ◌<◌, ◌==◌, Bool, true, false, List, [], ◌∷◌, ◌++◌, Option, Some, None, slice_get, refl, sym, ap, ◌∙◌, subst, inl, inr, ⊎_elim, arith, append-nil, add-zero, eq-eqb}
+use Rattle.std.proofs.Common.{◌≡◌, ◌⊎◌, ℕ, ◌==◌, true, List, [], ◌∷◌, ◌++◌, Option, refl, sym, ap, ◌∙◌, subst, inl, arith, append-nil, add-zero, eq-eqb}
 use Rattle.link_io.specs.declared.target.Key.{Key}
 use Rattle.link_io.specs.declared.target.Target.{Target}
 use Rattle.flight_journal.specs.declared.entry.Entry.{Entry}
 use Rattle.flight_journal.specs.declared.entry.Entry.TheVariants.{Hit}
 use Rattle.flight_journal.specs.State.{State, Flight, nothing, WaitsIn, IsOwed, IsKept, is_open}
-use Rattle.flight_journal.specs.Journal.{after, step, Allowed, Legal}
-use Rattle.flight_journal.specs.Count.{names, one_if, calls_of, losses_of, key_in, only_if, asked_in, asks_from, wrecks_from}
+use Rattle.flight_journal.specs.Journal.{after, Allowed, Legal}
+use Rattle.flight_journal.specs.Count.{names, one_if, losses_of, key_in, only_if, asked_in, asks_from}
 use Rattle.flight_journal.proofs.PushLemmas.{after_push}
 use Rattle.flight_journal.proofs.CountLemmas.{calls_push, losses_push, asks_push, wrecks_push}
 use Rattle.flight_table.specs.Facts.{Facts, hit_pass}
-use Rattle.flight_table.specs.Knows.{IsAwait, Knows}
+use Rattle.flight_table.specs.Knows.{Knows}
 use Rattle.flight_table.proofs.KnowLemmas.{lost_more, await_on}
 
 pub knows_hit : (budget f : ℕ) (js : List Entry) (p : Facts) (u : Target) → Legal budget js → Allowed budget (after js) (Hit p.query f) → IsKept (after js) f u → Knows js p → Knows (js ++ Hit p.query f ∷ []) (hit_pass u.key p)

@@ -4,3 +4,4 @@ pub mod NewLemmas
 pub mod CloseLemmas
 pub mod HitPassLemmas
 pub mod AwaitLemmas
+pub mod PartLemmas

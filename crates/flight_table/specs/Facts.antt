@@ -1,8 +1,9 @@
 -- What a pass and a door say. They are plain data that contracts alone see.
-use Rattle.std.specs.Prelude.{ℕ, ◌+◌, Bool, true, false, List, [], ◌∷◌, ◌++◌, Option, None}
+use Rattle.std.specs.Prelude.{◌≢◌, ℕ, ◌+◌, Bool, true, false, List, [], ◌∷◌, ◌++◌, map, Option, Some, None}
 use Rattle.link_io.specs.Origin.{Origin}
 use Rattle.link_io.specs.declared.target.Key.{Key}
 use Rattle.link_io.specs.declared.target.Target.{Target}
+use Rattle.flight_journal.specs.Count.{Among, IsOnce}
 
 -- what a pass says of its query: how many entries name it, whether it is open, the keys that it asked for, how many flights
 -- it lost, the flights without a size that it landed or took, those that others lost while it awaited them, the flight whose
@@ -38,3 +39,26 @@ hit_pass key p = record p { calls = p.calls + 1; asks = p.asks ++ key ∷ [] }
 abbrev pub awaiting_pass : ℕ → Target → Facts → Facts
 awaiting_pass f target p =
     record p { calls = p.calls + 1; asks = p.asks ++ target.key ∷ []; awaits = p.awaits ++ (f, target) ∷ [] }
+
+-- some awaited flights without one of them
+pub record IsWithout (f : ℕ) (old rest : List (ℕ × Target)) : Type 0 where
+  pub same : (g : ℕ) (t : Target) → g ≢ f → Among (g, t) old → Among (g, t) rest
+  pub only : (g : ℕ) (t : Target) → Among (g, t) rest → Among (g, t) old × (g ≢ f)
+  pub once : IsOnce (map (λ a. a.0) rest)
+
+-- the flight without a size, if it is one
+abbrev pub wreck_of : ℕ → Option ℕ → List ℕ
+wreck_of f None = f ∷ []
+wreck_of f (Some size) = []
+
+-- the pass of a query that has just landed a flight, and awaits the rest
+abbrev pub landed_pass : ℕ → Option ℕ → List (ℕ × Target) → Facts → Facts
+landed_pass f size rest p = record p { calls = p.calls + 1; wrecks = p.wrecks ++ wreck_of f size; hand = None; awaits = rest }
+
+-- the pass of a query that has just lost a flight, and awaits the rest
+abbrev pub lost_pass : List (ℕ × Target) → Facts → Facts
+lost_pass rest p = record p { calls = p.calls + 1; losses = p.losses + 1; hand = None; awaits = rest }
+
+-- the pass of a query that has just taken an owed value, which may be a wreck, and awaits the rest
+abbrev pub taken_pass : List ℕ → List (ℕ × Target) → Facts → Facts
+taken_pass wreck rest p = record p { calls = p.calls + 1; wrecks = p.wrecks ++ wreck; awaits = rest }

@@ -1,18 +1,18 @@
 //! The law that carries what a pass says over the calls of others.
 
-ghost use Rattle.std.specs.Prelude.{◌≡◌, ◌≢◌, ◌++◌, ◌∷◌, [], ℕ, List, Option, Some, None, false, length};
+ghost use Rattle.std.specs.Prelude.{◌≡◌, ◌≢◌, ◌++◌, ◌∷◌, [], ℕ, List, Option, Some, None, false, length, slice_get};
 ghost use Rattle.std.specs.List.{list_any};
 ghost use Rattle.link_io.specs.Origin.{Origin};
 ghost use Rattle.link_io.specs.Target.{IsPlain};
 ghost use Rattle.link_io.specs.declared.target.Target.{Target};
 ghost use Rattle.flight_journal.specs.declared.entry.Entry.{Entry};
-ghost use Rattle.flight_journal.specs.declared.entry.Entry.TheVariants.{Opened, Began, Joined, Hit};
+ghost use Rattle.flight_journal.specs.declared.entry.Entry.TheVariants.{Opened, Began, Joined, Hit, Taken, Landed, Lost};
 ghost use Rattle.flight_journal.specs.State.{Flies, IsKept};
 ghost use Rattle.flight_journal.specs.Journal.{after, Allowed, Legal};
-ghost use Rattle.flight_journal.specs.Count.{names};
+ghost use Rattle.flight_journal.specs.Count.{names, only_if, is_wreck};
 ghost use Rattle.flight_rows.specs.Sight.{Sight, IsSightSound, hand_in};
 ghost use Rattle.flight_rows.specs.Serves.{Writes, HandsStay, HandMoves, IsLeaving};
-ghost use Rattle.flight_table.specs.Facts.{Facts, new_pass, left_pass, hit_pass, awaiting_pass};
+ghost use Rattle.flight_table.specs.Facts.{Facts, new_pass, left_pass, hit_pass, awaiting_pass, landed_pass, lost_pass, taken_pass, IsWithout};
 ghost use Rattle.flight_table.specs.Knows.{Knows};
 ghost use Rattle.flight_table.specs.Tells.{Tells, HoldsTheSame};
 
@@ -70,4 +70,21 @@ pub fn a_pass_that_awaits_is_told()
         Allowed budget (after journal) (Joined p.query f) → Flies (after journal) f u →
         IsPlain u → Knows journal p →
         Knows (journal ++ Joined p.query f ∷ []) (awaiting_pass f u p) }
+{}
+
+/// A query that lands or loses a flight, or takes its value, has a pass that says so, and awaits the
+/// rest.
+pub fn a_pass_that_parts_is_told()
+    ensures landed { (budget f : ℕ) (size : Option ℕ) (journal : List Entry) (p : Facts)
+        (rest : List (ℕ × Target)) →
+        Allowed budget (after journal) (Landed p.query f size) → IsWithout f p.awaits rest →
+        Knows journal p →
+        Knows (journal ++ Landed p.query f size ∷ []) (landed_pass f size rest p) }
+    ensures lost { (budget f : ℕ) (journal : List Entry) (p : Facts) (rest : List (ℕ × Target)) →
+        Allowed budget (after journal) (Lost p.query f) → IsWithout f p.awaits rest →
+        Knows journal p → Knows (journal ++ Lost p.query f ∷ []) (lost_pass rest p) }
+    ensures taken { (budget f : ℕ) (journal : List Entry) (p : Facts) (rest : List (ℕ × Target)) →
+        Allowed budget (after journal) (Taken p.query f) → IsWithout f p.awaits rest →
+        Knows journal p → Knows (journal ++ Taken p.query f ∷ [])
+        (taken_pass (only_if (is_wreck (slice_get (after journal).flights f)) (f ∷ [])) rest p) }
 {}

@@ -8,6 +8,7 @@
 mod laws;
 
 pub use laws::{
-    a_new_pass_is_told, a_pass_that_awaits_is_told, a_pass_that_hit_is_told, a_pass_that_left_is_told, what_a_pass_says_stays,
+    a_new_pass_is_told, a_pass_that_awaits_is_told, a_pass_that_hit_is_told,
+    a_pass_that_left_is_told, a_pass_that_parts_is_told, what_a_pass_says_stays,
     what_a_pass_tells_stays,
 };
