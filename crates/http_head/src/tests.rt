@@ -604,13 +604,23 @@ fn body(head_len: u64, frame: Frame) -> Reply {
 }
 
 #[test]
-fn replies_are_judged_whole_and_at_every_cut(rt: HostRuntime) -> Result<(), Fail> {
+fn bodies_are_judged_whole_and_at_every_cut(rt: HostRuntime) -> Result<(), Fail> {
     for (bytes, head, frame) in GOOD {
         assert!(rt; is_judged(bytes, head, body(head, frame)), "{bytes:?}");
     }
+    Ok(())
+}
+
+#[test]
+fn other_replies_are_judged_whole_and_at_every_cut(rt: HostRuntime) -> Result<(), Fail> {
     for (bytes, head, says) in REFUSED {
         assert!(rt; is_judged(bytes, head, says), "{bytes:?}");
     }
+    Ok(())
+}
+
+#[test]
+fn bytes_without_a_head_are_judged_at_every_cut(rt: HostRuntime) -> Result<(), Fail> {
     for bytes in HEADLESS {
         assert!(rt; is_judged(bytes, u64::MAX, Reply::Partial), "{bytes:?}");
     }
