@@ -1,5 +1,5 @@
 -- The laws of the closure.
-use Rattle.std.proofs.Common.{◌≡◌, ℕ, zero, suc, ◌+◌, ◌<◌, ◌≤◌, ◌⊎◌, inl, inr, Bool, true, false, cond, ◌||◌, ◌&&◌, ◌==◌, List, [], ◌∷◌, ◌++◌, map, length, refl, sym, ap, subst, ◌∙◌, true≢false, arith, filter, find, flat_map, not, Option, Some, None}
+use Rattle.std.proofs.Common.{◌≡◌, ℕ, zero, suc, ◌+◌, ◌<◌, ◌⊎◌, inl, inr, Bool, true, false, cond, ◌||◌, ◌&&◌, ◌==◌, List, [], ◌∷◌, ◌++◌, map, length, refl, sym, ap, subst, ◌∙◌, true≢false, arith, find, flat_map, not, Option, Some, None}
 use Rattle.std.specs.Prelude.{is_some}
 use Rattle.std.specs.List.{AllByRecursion, list_all, list_any, range_with_len}
 use Rattle.std.specs.Option.{option_or}
@@ -7,7 +7,6 @@ use Rattle.std.specs.Cmp.{unsigned_Decides}
 use Rattle.std.specs.Ordering.{eq_by_cmp}
 use Rattle.std.proofs.lemmas.List.Folds.{find-append, list_any-append}
 use Rattle.digest_gate.specs.declared.digest.Digest.{Digest}
-use Rattle.shard_file.specs.Rows.{Row}
 use Rattle.closure_request.specs.Request.{Asking, root_names}
 use Rattle.closure_request.specs.Slots.{slots, numbers}
 use Rattle.closure_plan.specs.Names.{Name, by_bytes, has_name, is_name, ascending}
@@ -20,7 +19,7 @@ use Rattle.closure_plan.proofs.ArrivalLemmas.{and_both, and_first, and_second}
 use Rattle.closure_plan.proofs.AllLemmas.{all_mapped, all_part, all_unmapped, all_whole}
 use Rattle.closure_plan.proofs.NameLemmas.{In, Within, has-ascending, itself, one_name, or_cases, or_left, or_right}
 use Rattle.closure_plan.proofs.RoundLemmas.{least, more_reached, reached_after}
-use Rattle.closure_plan.proofs.ClosureLemmas.{each_within, in-targets, same_closure}
+use Rattle.closure_plan.proofs.ClosureLemmas.{in-targets, same_closure}
 use Rattle.closure_plan.proofs.GiveLemmas.{range_has}
 use Rattle.closure_plan.proofs.PinLemmas.{some_stays, wanted_stays}
 

@@ -1,14 +1,14 @@
 -- Laws of what a request reaches, and of its closure.
-use Rattle.std.specs.Prelude.{◌≡◌, ◌⊎◌, None, ℕ, zero, suc, ◌+◌, ◌<◌, Bool, true, false, List, [], ◌++◌, length, Some, is_some}
+use Rattle.std.specs.Prelude.{◌≡◌, ◌⊎◌, None, ℕ, suc, ◌<◌, Bool, true, false, List, [], ◌++◌, length, Some, is_some}
 use Rattle.std.specs.List.{list_all}
 use Rattle.shard_index.specs.Index as indexes
 use Rattle.closure_request.specs.Request.{Asking, root_names}
 use Rattle.closure_request.specs.Slots.{slots}
-use Rattle.closure_plan.specs.Names.{Name, has_name, ascending}
-use Rattle.closure_plan.specs.Rounds.{round, rounds}
+use Rattle.closure_plan.specs.Names.{Name, has_name}
+use Rattle.closure_plan.specs.Rounds.{rounds}
 use Rattle.closure_plan.specs.Given.{Pins, LeafRows, pin_at, rows_at, wanted, given}
 use Rattle.closure_plan.specs.Needs.{is_given, needs, next_wish}
-use Rattle.closure_plan.specs.Closure.{Found, leads_to, targets, reach, found, closure}
+use Rattle.closure_plan.specs.Closure.{Found, leads_to, reach, found, closure}
 
 -- ---- rounds
 
