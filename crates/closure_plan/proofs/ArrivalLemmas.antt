@@ -1,13 +1,13 @@
 -- A leaf that arrives: what is listed and the new names of its given rows are what is reached then.
-use Rattle.std.proofs.Common.{◌≡◌, ℕ, ◌+◌, ◌≤◌, ◌<◌, zero, suc, ◌⊎◌, inl, inr, Bool, true, false, cond, ◌||◌, ◌&&◌, ◌==◌, List, [], ◌∷◌, ◌++◌, length, refl, sym, ap, subst, subst₂, ◌∙◌, true≢false, arith, flat_map, filter, find, Option, Some, None, not}
+use Rattle.std.proofs.Common.{◌≡◌, ℕ, ◌⊎◌, inl, inr, Bool, true, false, cond, ◌||◌, ◌&&◌, ◌==◌, List, [], ◌∷◌, ◌++◌, length, refl, sym, ap, subst, subst₂, ◌∙◌, true≢false, flat_map, find, Option, Some, None}
 use Rattle.std.specs.Prelude.{is_some}
 use Rattle.std.specs.Ordering.{eq_by_cmp}
-use Rattle.std.specs.List.{list_any, range_with_len}
+use Rattle.std.specs.List.{list_any}
 use Rattle.std.specs.Option.{option_or}
 use Rattle.std.specs.Cmp.{unsigned_Decides}
 use Rattle.std.proofs.lemmas.List.Folds.{list_any-append, find-append}
 use Rattle.shard_file.specs.Rows.{Row}
-use Rattle.closure_plan.specs.Names.{Name, by_bytes, is_name, has_name, ascending}
+use Rattle.closure_plan.specs.Names.{Name, by_bytes, has_name, ascending}
 use Rattle.closure_plan.specs.Rounds.{reached}
 use Rattle.closure_request.specs.Request.{Asking, root_names}
 use Rattle.closure_request.specs.Slots.{slots, numbers}

@@ -1,9 +1,8 @@
 -- What may be asked for may be marked.
-use Rattle.std.proofs.Common.{◌≡◌, ℕ, Bool, true, false, ◌||◌, ◌&&◌, ◌==◌, not, List, [], ◌∷◌, map, refl, sym, ap, subst, ◌∙◌, true≢false, Option, Some, None}
-use Rattle.std.specs.Prelude.{is_some, nat_eq}
+use Rattle.std.proofs.Common.{◌≡◌, ℕ, Bool, true, false, ◌||◌, ◌&&◌, not, List, [], ◌∷◌, map, refl, sym, ap, ◌∙◌, true≢false, Option, Some, None}
+use Rattle.std.specs.Prelude.{is_some}
 use Rattle.std.specs.List.{list_any}
 use Rattle.std.specs.Cmp.{unsigned_Decides}
-use Rattle.std.specs.Cmp.Lexicographic.{pointwise}
 use Rattle.digest_gate.specs.declared.digest.Digest.{Digest}
 use Rattle.std.specs.Str.{bytes_eq}
 use Rattle.shard_file.specs.Rows as shards
@@ -14,7 +13,7 @@ use Rattle.closure_plan.specs.Names.{Name}
 use Rattle.closure_request.specs.Request.{Asking}
 use Rattle.closure_request.specs.Slots.{slot_at}
 use Rattle.closure_plan.specs.Given.{Pins, wanted}
-use Rattle.closure_plan.specs.Needs.{Wish, is_key, is_digest}
+use Rattle.closure_plan.specs.Needs.{is_key, is_digest}
 use Rattle.closure_plan.specs.Plan.{Planned, IsNeed, CanMark, its_pins, its_wishes, has_given, has_need, same_need, may_ask, wish_of, name_at}
 use Rattle.closure_plan.proofs.ArrivalLemmas.{and_first, and_second}
 use Rattle.closure_plan.proofs.KeepLemmas.{not_one}

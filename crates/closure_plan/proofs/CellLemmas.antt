@@ -1,14 +1,14 @@
 -- What stays so of the cells of shards.
-use Rattle.std.proofs.Common.{◌≡◌, ℕ, zero, suc, ◌+◌, ◌*◌, ◌<◌, ◌≤◌, Bool, true, false, cond, ◌||◌, ◌&&◌, ◌==◌, List, [], ◌∷◌, ◌++◌, length, set, get_or, refl, sym, ap, subst, ◌∙◌, true≢false, arith, find, Option, Some, None, ltb, ltb-true, ltb-false}
+use Rattle.std.proofs.Common.{◌≡◌, ℕ, ◌+◌, ◌*◌, ◌<◌, ◌≤◌, Bool, true, false, cond, ◌&&◌, ◌==◌, List, [], ◌∷◌, ◌++◌, length, set, refl, sym, ap, subst, ◌∙◌, true≢false, arith, find, Option, Some, None, ltb, ltb-true, ltb-false}
 use Rattle.std.specs.Prelude.{is_some, IfSome, eqb}
-use Rattle.std.specs.List.{IsDistinct, list_any, slice_index_or}
+use Rattle.std.specs.List.{IsDistinct}
 use Rattle.std.specs.Option.{option_map, option_or}
 use Rattle.std.specs.Cmp.{unsigned_Decides}
 use Rattle.std.proofs.lemmas.List.{get_or-set_same, get_or-set_other, get_or_append_left, length-append}
 use Rattle.std.proofs.Math.Seq.{get_or-append_seam}
 use Rattle.std.proofs.lemmas.List.Folds.{find-append}
 use Rattle.std.proofs.lemmas.Nat.{row_fits, same_from_place}
-use Rattle.closure_plan.specs.Names.{Name, is_name, has_name}
+use Rattle.closure_plan.specs.Names.{Name, is_name}
 use Rattle.closure_plan.specs.Given.{LeafRows, is_at}
 use Rattle.closure_plan.specs.Plan.{name_at}
 use Rattle.closure_plan.specs.Rows.{leaf_or_none, no_leaf}

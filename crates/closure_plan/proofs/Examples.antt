@@ -14,7 +14,7 @@ use Rattle.closure_plan.specs.Names.{Name}
 use Rattle.closure_request.specs.Request.{Asking, Site}
 use Rattle.closure_plan.specs.Given.{Pins, LeafRows}
 use Rattle.closure_plan.specs.Closure.{Found, closure}
-use Rattle.closure_plan.specs.Needs.{Wish, the_index, the_shard, needs}
+use Rattle.closure_plan.specs.Needs.{the_index, the_shard, needs}
 
 abbrev file_row : List ℕ → Bool → Name → List (List ℕ) → Row
 file_row file conda name depends = record {

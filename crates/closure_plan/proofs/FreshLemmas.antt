@@ -1,6 +1,6 @@
 -- Names that are added, one after another.
-use Rattle.std.proofs.Common.{◌≡◌, ℕ, zero, suc, ◌+◌, ◌<◌, arith, Bool, true, false, cond, ◌||◌, ◌&&◌, List, [], ◌∷◌, ◌++◌, length, take, refl, sym, ap, subst, ◌∙◌, true≢false, append_assoc, filter, flat_map, Option, Some, None}
-use Rattle.std.specs.List.{list_any, IsDistinct, AllByRecursion, slice_get, slice_index_or}
+use Rattle.std.proofs.Common.{◌≡◌, ℕ, ◌+◌, ◌<◌, arith, Bool, true, false, cond, ◌||◌, ◌&&◌, List, [], ◌∷◌, ◌++◌, length, take, refl, sym, ap, subst, ◌∙◌, true≢false, append_assoc, filter, flat_map, Some}
+use Rattle.std.specs.List.{IsDistinct, AllByRecursion, slice_get, slice_index_or}
 use Rattle.std.proofs.lemmas.List.{take_more}
 use Rattle.std.proofs.lemmas.List.Elements.{filter-append}
 use Rattle.std.proofs.lemmas.List.Concat.{flat_map-append}
@@ -10,9 +10,9 @@ use Rattle.std.proofs.lemmas.Map.Keys.{IsDistinct-head, IsDistinct-tail, IsDisti
 use Rattle.shard_file.specs.Rows.{Row}
 use Rattle.closure_plan.specs.Names.{Name, is_name, has_name}
 use Rattle.closure_request.specs.Request.{Asking}
-use Rattle.closure_plan.specs.Given.{names_of_text, names_if, deps_of, deps_if, name_in, named, stays, kept_by, is_asked, given_of, gives}
+use Rattle.closure_plan.specs.Given.{names_of_text, names_if, deps_of, deps_if, name_in, named, stays, is_asked, given_of, gives}
 use Rattle.closure_plan.specs.Fresh.{Grows}
-use Rattle.closure_plan.proofs.NameLemmas.{In, itself, one_name, or_left, or_right}
+use Rattle.closure_plan.proofs.NameLemmas.{In, itself, one_name, or_right}
 
 or_none : (a : Bool) → a ≡ (a || false)
 or_none true = refl

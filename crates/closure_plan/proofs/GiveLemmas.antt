@@ -1,13 +1,13 @@
 -- What stays so of a plan where a shard is given.
-use Rattle.std.proofs.Common.{◌≡◌, ℕ, zero, suc, ◌+◌, ◌*◌, ◌<◌, ◌≤◌, ◌⊎◌, inl, inr, Bool, true, false, cond, ◌||◌, ◌&&◌, ◌==◌, not, List, [], ◌∷◌, ◌++◌, map, length, refl, sym, ap, subst, subst₂, ◌∙◌, true≢false, arith, filter, find, flat_map, Option, Some, None, ltb, ltb-true, ltb-false}
+use Rattle.std.proofs.Common.{◌≡◌, ℕ, zero, suc, ◌+◌, ◌*◌, ◌<◌, ◌≤◌, Bool, true, false, cond, ◌||◌, ◌&&◌, ◌==◌, not, List, [], ◌∷◌, ◌++◌, map, length, refl, sym, ap, subst, ◌∙◌, true≢false, arith, find, flat_map, Option, Some, None, ltb, ltb-true, ltb-false}
 use Rattle.std.specs.Prelude.{is_some, eqb}
 use Rattle.std.specs.List.{All, AllByRecursion, IsDistinct, list_any, slice_index_or, range_with_len}
 use Rattle.std.specs.Option.{option_or}
 use Rattle.std.specs.Cmp.{unsigned_Decides}
-use Rattle.std.proofs.lemmas.List.{length-map, length-append, map-append, get_or_append_left}
+use Rattle.std.proofs.lemmas.List.{length-append, map-append, get_or_append_left}
 use Rattle.std.proofs.lemmas.List.Elements.{All-push, All-filter, All-weaker, recursion_from_All, filter_passes}
-use Rattle.std.proofs.lemmas.List.Folds.{list_any-append, list_any_at, find-append}
-use Rattle.std.proofs.lemmas.Map.Keys.{apart_from_distinct, IsDistinct-head, IsDistinct-tail, IsDistinct-cons}
+use Rattle.std.proofs.lemmas.List.Folds.{list_any-append, find-append}
+use Rattle.std.proofs.lemmas.Map.Keys.{IsDistinct-head, IsDistinct-tail, IsDistinct-cons}
 use Rattle.digest_gate.specs.Digest.{digest_of}
 use Rattle.shard_file.specs.Rows as shards
 use Rattle.shard_index.specs.Index as indexes
@@ -16,13 +16,12 @@ use Rattle.closure_plan.specs.declared.need.Need.TheVariants as need
 use Rattle.closure_plan.specs.Names.{Name, is_name, has_name, ascending}
 use Rattle.closure_request.specs.Request.{Asking, root_names}
 use Rattle.closure_request.specs.Slots.{slots, numbers}
-use Rattle.closure_plan.specs.Given.{Pins, LeafRows, pin_at, is_at, rows_of, rows_at, wanted, given, given_of, deps_of}
+use Rattle.closure_plan.specs.Given.{Pins, LeafRows, is_at, rows_of, rows_at, wanted, given, given_of, deps_of}
 use Rattle.closure_plan.specs.Rounds.{reached}
 use Rattle.closure_plan.specs.Closure.{reach, leads_to, targets}
-use Rattle.closure_plan.specs.Needs.{is_given, the_index, the_shard}
-use Rattle.closure_plan.specs.Plan.{Placed, Planned, IsPlan, IsLeaf, IsNeed, pins_of, is_same_leaf, leaf_of, leaves_of, name_at, wish_of, same_need, without, has_given, its_pins, its_leaves}
+use Rattle.closure_plan.specs.Plan.{Placed, Planned, IsLeaf, IsNeed, is_same_leaf, leaf_of, leaves_of, name_at, same_need, without, has_given, its_pins, its_leaves}
 use Rattle.closure_plan.specs.Inside.{Holds, place_of}
-use Rattle.closure_plan.proofs.NameLemmas.{In, itself, one_name, or_left, or_right, same_names, rises-ascending, has-ascending}
+use Rattle.closure_plan.proofs.NameLemmas.{In, itself, one_name, or_left, same_names, rises-ascending, has-ascending}
 use Rattle.closure_plan.proofs.ArrivalLemmas.{and_first, and_second, and_both, has_slot, reach_after}
 use Rattle.closure_plan.proofs.NumberLemmas.{in_at, one_number}
 use Rattle.closure_plan.proofs.MarkLemmas.{distinct_filtered, once_of}

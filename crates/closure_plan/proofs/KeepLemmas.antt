@@ -1,23 +1,21 @@
 -- What stays so of a plan at each of its calls.
-use Rattle.std.proofs.Common.{◌≡◌, ℕ, zero, suc, ◌+◌, ◌*◌, ◌<◌, ◌≤◌, ◌⊎◌, inl, inr, Bool, true, false, cond, ◌||◌, ◌&&◌, ◌==◌, not, List, [], ◌∷◌, ◌++◌, map, length, refl, sym, ap, subst, subst₂, ◌∙◌, true≢false, arith, filter, find, Option, Some, None}
+use Rattle.std.proofs.Common.{◌≡◌, ℕ, zero, suc, ◌<◌, Bool, true, false, ◌==◌, not, List, [], ◌∷◌, ◌++◌, map, length, refl, sym, ap, ◌∙◌, true≢false, arith, Option, Some, None}
 use Rattle.std.specs.Prelude.{is_some, eqb}
-use Rattle.std.specs.List.{All, AllByRecursion, IsDistinct, list_any, slice_get, slice_set, slice_index_or}
-use Rattle.std.specs.Option.{option_map, option_flatten}
+use Rattle.std.specs.List.{AllByRecursion, IsDistinct, slice_set, slice_index_or}
+use Rattle.std.specs.Option.{option_map}
 use Rattle.std.specs.Cmp.{unsigned_Decides}
 use Rattle.std.proofs.lemmas.List.{length-map, length-set}
-use Rattle.std.proofs.lemmas.List.Elements.{All-push, All-filter, All-from_recursion, recursion_from_All, All-weaker, All-map, filter_passes}
+use Rattle.std.proofs.lemmas.List.Elements.{All-push, All-filter, recursion_from_All, All-weaker, All-map, filter_passes}
 use Rattle.digest_gate.specs.Digest.{digest_of}
 use Rattle.shard_file.specs.Rows as shards
 use Rattle.shard_index.specs.Index as indexes
 use Rattle.closure_plan.specs.declared.need.Need.{Need}
 use Rattle.closure_plan.specs.declared.need.Need.TheVariants as need
-use Rattle.closure_plan.specs.Names.{Name, is_name, has_name}
-use Rattle.closure_request.specs.Request.{Asking}
 use Rattle.closure_request.specs.Slots.{slots}
 use Rattle.closure_plan.specs.Given.{Pins, LeafRows, pin_at, wanted}
 use Rattle.closure_plan.specs.Closure.{reach}
-use Rattle.closure_plan.specs.Needs.{is_given, the_index, the_shard}
-use Rattle.closure_plan.specs.Plan.{Placed, Planned, IsPlan, IsLeaf, IsNeed, pins_of, leaf_of, leaves_of, name_at, wish_of, same_need, has_need, without, has_given, its_pins, its_leaves}
+use Rattle.closure_plan.specs.Needs.{is_given}
+use Rattle.closure_plan.specs.Plan.{Placed, Planned, IsLeaf, IsNeed, pins_of, leaf_of, leaves_of, name_at, wish_of, same_need, has_need, without, has_given, its_pins, its_leaves}
 use Rattle.closure_plan.specs.Giving.{with_pin}
 use Rattle.closure_plan.specs.Laws.{Extends}
 use Rattle.closure_plan.specs.Inside.{Holds, place_of}

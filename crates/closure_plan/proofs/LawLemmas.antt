@@ -1,5 +1,5 @@
 -- The laws of the closure.
-use Rattle.std.proofs.Common.{◌≡◌, ℕ, zero, suc, ◌+◌, ◌<◌, ◌≤◌, ◌⊎◌, inl, inr, Bool, true, false, cond, ◌||◌, ◌&&◌, ◌==◌, List, [], ◌∷◌, ◌++◌, map, length, refl, sym, ap, subst, ◌∙◌, true≢false, arith, filter, find, flat_map, Option, Some, None}
+use Rattle.std.proofs.Common.{◌≡◌, ℕ, zero, suc, ◌+◌, ◌<◌, ◌⊎◌, inl, inr, Bool, true, false, cond, ◌||◌, ◌&&◌, ◌==◌, List, [], ◌∷◌, ◌++◌, map, length, refl, sym, ap, subst, ◌∙◌, true≢false, arith, find, flat_map, not, Option, Some, None}
 use Rattle.std.specs.Prelude.{is_some}
 use Rattle.std.specs.List.{AllByRecursion, list_all, list_any, range_with_len}
 use Rattle.std.specs.Option.{option_or}
@@ -7,19 +7,19 @@ use Rattle.std.specs.Cmp.{unsigned_Decides}
 use Rattle.std.specs.Ordering.{eq_by_cmp}
 use Rattle.std.proofs.lemmas.List.Folds.{find-append, list_any-append}
 use Rattle.digest_gate.specs.declared.digest.Digest.{Digest}
-use Rattle.shard_file.specs.Rows.{Row}
 use Rattle.closure_request.specs.Request.{Asking, root_names}
 use Rattle.closure_request.specs.Slots.{slots, numbers}
 use Rattle.closure_plan.specs.Names.{Name, by_bytes, has_name, is_name, ascending}
 use Rattle.closure_plan.specs.Rounds.{reached, rounds}
 use Rattle.closure_plan.specs.Given.{Pins, LeafRows, deps_of, given, given_of, is_at, rows_at, rows_of, wanted}
 use Rattle.closure_plan.specs.Closure.{Found, closure, closure_in, found, leads_to, reach, targets}
+use Rattle.closure_plan.specs.Needs.{Wish, is_askable, is_given, needs, next_wish}
 use Rattle.closure_plan.specs.Laws.{Extends}
 use Rattle.closure_plan.proofs.ArrivalLemmas.{and_both, and_first, and_second}
 use Rattle.closure_plan.proofs.AllLemmas.{all_mapped, all_part, all_unmapped, all_whole}
 use Rattle.closure_plan.proofs.NameLemmas.{In, Within, has-ascending, itself, one_name, or_cases, or_left, or_right}
 use Rattle.closure_plan.proofs.RoundLemmas.{least, more_reached, reached_after}
-use Rattle.closure_plan.proofs.ClosureLemmas.{each_within, in-targets, same_closure}
+use Rattle.closure_plan.proofs.ClosureLemmas.{in-targets, same_closure}
 use Rattle.closure_plan.proofs.GiveLemmas.{range_has}
 use Rattle.closure_plan.proofs.PinLemmas.{some_stays, wanted_stays}
 
@@ -137,3 +137,16 @@ module _ (r : Asking) (pins more : Pins) (extends : Extends pins more) where
 
 pub same_order : (r : Asking) (pins : Pins) (leaves others : List LeafRows) → ((s : ℕ) (n : Name) → rows_at others s n ≡ rows_at leaves s n) → closure r pins others ≡ closure r pins leaves
 same_order r pins leaves others same = same_closure r pins pins leaves others (λ s n _. ap (λ rows. cond (is_some (wanted r pins s n)) (given_of r s n rows) []) (same s n))
+
+-- ---- the end
+
+-- where no need may be asked for beside no marks, each is given
+all_given : (r : Asking) (pins : Pins) (leaves : List LeafRows) (ws : List Wish) → find (is_askable r pins leaves []) ws ≡ None → list_all (is_given pins leaves) ws ≡ true
+all_given r pins leaves [] e = refl
+all_given r pins leaves (w ∷ ws) e = elim (is_given pins leaves w) as (λ b. cond (not b && true) (Some w) (find (is_askable r pins leaves []) ws) ≡ None → (b && list_all (is_given pins leaves) ws) ≡ true) [
+  | true ↦ λ e. all_given r pins leaves ws e
+  | false ↦ λ e. absurd (true≢false (ap is_some e))
+] e
+
+pub end_done : (r : Asking) (pins : Pins) (leaves : List LeafRows) → next_wish r pins leaves [] ≡ None → list_all (is_given pins leaves) (needs r pins leaves) ≡ true
+end_done r pins leaves e = all_given r pins leaves (needs r pins leaves) e

@@ -1,9 +1,9 @@
 -- There is room for each mark.
-use Rattle.std.proofs.Common.{◌≡◌, ℕ, zero, suc, ◌+◌, ◌*◌, ◌<◌, ◌≤◌, Bool, true, false, cond, ◌||◌, ◌&&◌, ◌==◌, not, List, [], ◌∷◌, ◌++◌, map, length, refl, sym, ap, subst, ◌∙◌, true≢false, arith, filter}
-use Rattle.std.specs.Prelude.{is_some, eqb}
+use Rattle.std.proofs.Common.{◌≡◌, ℕ, ◌+◌, ◌*◌, ◌<◌, Bool, true, false, cond, ◌||◌, ◌==◌, List, [], ◌∷◌, ◌++◌, map, length, refl, sym, ap, subst, ◌∙◌, true≢false, arith, filter}
+use Rattle.std.specs.Prelude.{eqb}
 use Rattle.std.specs.List.{list_any, IsDistinct, AllByRecursion}
 use Rattle.std.specs.Cmp.{unsigned_Decides}
-use Rattle.std.proofs.lemmas.List.{length-map, map-append, length-append}
+use Rattle.std.proofs.lemmas.List.{length-map, map-append}
 use Rattle.std.proofs.lemmas.Map.Keys.{IsDistinct-head, IsDistinct-tail, IsDistinct-cons, IsDistinct-from_apart}
 use Rattle.std.proofs.lemmas.Map.Steps.{length-le_from_distinct_below}
 use Rattle.std.proofs.lemmas.Nat.{row_fits, same_from_place}
@@ -12,8 +12,8 @@ use Rattle.closure_plan.specs.declared.need.Need.TheVariants as need
 use Rattle.closure_plan.specs.Names.{Name}
 use Rattle.closure_request.specs.Request.{Asking}
 use Rattle.closure_request.specs.Slots.{slots}
-use Rattle.closure_plan.specs.Given.{Pins, wanted}
-use Rattle.closure_plan.specs.Plan.{IsNeed, name_at, same_need, has_need, without}
+use Rattle.closure_plan.specs.Given.{Pins}
+use Rattle.closure_plan.specs.Plan.{IsNeed, name_at, same_need, has_need}
 use Rattle.closure_plan.specs.Inside.{place_of}
 use Rattle.closure_plan.proofs.ArrivalLemmas.{and_first, and_second, and_both}
 use Rattle.closure_plan.proofs.PinLemmas.{wanted_within}

@@ -1,7 +1,7 @@
 -- What more pins leave as it was.
-use Rattle.std.proofs.Common.{◌≡◌, ℕ, zero, suc, ◌+◌, ◌<◌, ◌⊎◌, inl, inr, Bool, true, false, cond, ◌||◌, ◌&&◌, ◌==◌, not, List, [], ◌∷◌, map, length, refl, sym, ap, subst, ◌∙◌, true≢false, arith, find, Option, Some, None}
+use Rattle.std.proofs.Common.{◌≡◌, ℕ, zero, suc, ◌<◌, ◌⊎◌, inl, inr, true, false, cond, ◌||◌, ◌&&◌, ◌==◌, not, List, [], ◌∷◌, length, refl, sym, ap, ◌∙◌, true≢false, arith, find, Option, Some, None}
 use Rattle.std.specs.Prelude.{is_some}
-use Rattle.std.specs.List.{list_all, slice_get, AllByRecursion}
+use Rattle.std.specs.List.{list_all, AllByRecursion}
 use Rattle.std.specs.Cmp.{unsigned_Decides}
 use Rattle.digest_gate.specs.declared.digest.Digest.{Digest}
 use Rattle.shard_index.specs.Index as indexes

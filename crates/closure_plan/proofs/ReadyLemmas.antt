@@ -1,8 +1,7 @@
 -- What was made before makes a shard's arrival good.
-use Rattle.std.proofs.Common.{◌≡◌, ℕ, ◌+◌, ◌*◌, ◌<◌, ◌≤◌, arith, Bool, true, false, ◌||◌, List, [], ◌∷◌, ◌++◌, length, set, find, refl, sym, ap, subst, ◌∙◌, Option, Some, None}
-use Rattle.std.specs.List.{All, IsDistinct, slice_get}
+use Rattle.std.proofs.Common.{◌≡◌, ℕ, ◌+◌, ◌*◌, ◌<◌, ◌≤◌, arith, true, ◌||◌, List, [], ◌∷◌, ◌++◌, length, set, find, refl, sym, ap, subst, ◌∙◌, Option, Some}
+use Rattle.std.specs.List.{IsDistinct}
 use Rattle.std.specs.Option.{option_and_then}
-use Rattle.std.specs.Prelude.{is_some}
 use Rattle.std.proofs.lemmas.List.{length-append, length-map, map-append}
 use Rattle.std.proofs.lemmas.Option.{slice_get-get_or}
 use Rattle.digest_gate.specs.Digest.{digest_of}
@@ -14,9 +13,8 @@ use Rattle.closure_plan.specs.Names.{Name, is_name, has_name}
 use Rattle.closure_request.specs.Slots.{slots}
 use Rattle.closure_plan.specs.Given.{LeafRows, is_at, wanted}
 use Rattle.closure_plan.specs.Cells.{AreCells, cell_at}
-use Rattle.closure_plan.specs.Plan.{Placed, Planned, IsNeed, its_leaves, its_pins, leaf_of, leaves_of, name_at, digest_of_need, has_need, has_given, without}
+use Rattle.closure_plan.specs.Plan.{Planned, its_leaves, its_pins, leaf_of, leaves_of, name_at, digest_of_need, has_need, without}
 use Rattle.closure_plan.specs.Inside.{Holds}
-use Rattle.closure_plan.specs.Fresh.{Grows}
 use Rattle.closure_plan.specs.Giving.{reached_by}
 use Rattle.closure_plan.specs.Ready.{IsReady}
 use Rattle.closure_plan.proofs.CellLemmas.{cells_given, cells_same}

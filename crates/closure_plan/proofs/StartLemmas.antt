@@ -1,5 +1,5 @@
 -- What is so of a plan at its start.
-use Rattle.std.proofs.Common.{◌≡◌, ℕ, ◌+◌, ◌*◌, ◌<◌, ◌≤◌, Bool, true, false, cond, List, [], map, length, refl, sym, ◌∙◌, arith, Option}
+use Rattle.std.proofs.Common.{◌≡◌, ℕ, ◌+◌, ◌*◌, ◌<◌, ◌≤◌, true, false, cond, List, [], map, length, refl, sym, ◌∙◌, arith, Option}
 use Rattle.std.specs.List.{All, IsDistinct}
 use Rattle.std.proofs.lemmas.List.Elements.{All-nil}
 use Rattle.std.proofs.lemmas.Map.Keys.{IsDistinct-from_apart}
@@ -11,7 +11,7 @@ use Rattle.closure_request.specs.Request.{Asking, root_names}
 use Rattle.closure_request.specs.Slots.{slots}
 use Rattle.closure_plan.specs.Given.{Pins}
 use Rattle.closure_plan.specs.Closure.{reach}
-use Rattle.closure_plan.specs.Plan.{Planned, IsLeaf, IsNeed, is_same_leaf, same_need, has_given, name_at, pins_of}
+use Rattle.closure_plan.specs.Plan.{IsLeaf, IsNeed, is_same_leaf, same_need, has_given, name_at, pins_of}
 use Rattle.closure_plan.specs.Inside.{Holds}
 use Rattle.closure_plan.proofs.NameLemmas.{same_names, rises-ascending, has-ascending}
 

@@ -1,5 +1,5 @@
 -- The closure of a request over pins and leaves.
-use Rattle.std.specs.Prelude.{ℕ, List, [], ◌∷◌, map, if◌then◌else◌}
+use Rattle.std.specs.Prelude.{ℕ, List, map, if◌then◌else◌}
 use Rattle.std.specs.List.{flat_map}
 use Rattle.shard_file.specs.Rows.{Row}
 use Rattle.closure_plan.specs.Names.{Name, ascending}

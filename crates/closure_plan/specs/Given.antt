@@ -1,5 +1,5 @@
 -- The records of a name in a slot, and those of them that a request is given.
-use Rattle.std.specs.Prelude.{ℕ, ◌-◌, ◌==◌, ◌&&◌, ◌||◌, not, Bool, true, false, List, [], ◌∷◌, ◌++◌, map, length, take, drop, codes, is_some, if◌then◌else◌, Option, Some, None}
+use Rattle.std.specs.Prelude.{ℕ, ◌==◌, ◌&&◌, ◌||◌, not, Bool, true, false, List, [], ◌++◌, is_some, if◌then◌else◌, Option, Some, None}
 use Rattle.std.specs.List.{list_any, list_all, filter, find, slice_get, flat_map}
 use Rattle.std.specs.Option.{option_flatten, option_map, option_to_list}
 use Rattle.conda_name.specs.Name.{lower_case}

@@ -5,7 +5,7 @@ use Rattle.shard_file.specs.Rows as shards
 use Rattle.shard_index.specs.Index as indexes
 use Rattle.closure_plan.specs.declared.need.Need.{Need}
 use Rattle.closure_plan.specs.declared.need.Need.TheVariants as need
-use Rattle.closure_plan.specs.Names.{Name, ascending}
+use Rattle.closure_plan.specs.Names.{ascending}
 use Rattle.closure_request.specs.Slots.{slots}
 use Rattle.closure_plan.specs.Plan.{Planned, IsPlan, name_at}
 

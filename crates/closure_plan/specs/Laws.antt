@@ -1,13 +1,14 @@
 -- Laws of what a request reaches, and of its closure.
-use Rattle.std.specs.Prelude.{◌≡◌, ◌⊎◌, ℕ, zero, suc, ◌+◌, ◌<◌, Bool, true, false, List, [], ◌++◌, length, Some, is_some}
+use Rattle.std.specs.Prelude.{◌≡◌, ◌⊎◌, None, ℕ, suc, ◌<◌, Bool, true, false, List, [], ◌++◌, length, Some, is_some}
 use Rattle.std.specs.List.{list_all}
 use Rattle.shard_index.specs.Index as indexes
 use Rattle.closure_request.specs.Request.{Asking, root_names}
 use Rattle.closure_request.specs.Slots.{slots}
-use Rattle.closure_plan.specs.Names.{Name, has_name, ascending}
-use Rattle.closure_plan.specs.Rounds.{round, rounds}
+use Rattle.closure_plan.specs.Names.{Name, has_name}
+use Rattle.closure_plan.specs.Rounds.{rounds}
 use Rattle.closure_plan.specs.Given.{Pins, LeafRows, pin_at, rows_at, wanted, given}
-use Rattle.closure_plan.specs.Closure.{Found, leads_to, targets, reach, found, closure}
+use Rattle.closure_plan.specs.Needs.{is_given, needs, next_wish}
+use Rattle.closure_plan.specs.Closure.{Found, leads_to, reach, found, closure}
 
 -- ---- rounds
 
@@ -76,3 +77,10 @@ ClosureIsThatOfWorld = (r : Asking) (pins world_pins : Pins) (leaves world : Lis
     → ((s : ℕ) (n : Name) → is_some (wanted r world_pins s n) ≡ is_some (wanted r pins s n))
     → ((s : ℕ) (n : Name) → has_name (reach r pins leaves) n ≡ true → is_some (wanted r pins s n) ≡ true → rows_at world s n ≡ rows_at leaves s n)
     → closure r world_pins world ≡ closure r pins leaves
+
+-- ---- the end
+
+-- where nothing is marked and no need may be asked for, each need is given
+abbrev pub EndIsDone : Type 0
+EndIsDone = (r : Asking) (pins : Pins) (leaves : List LeafRows)
+    → next_wish r pins leaves [] ≡ None → list_all (is_given pins leaves) (needs r pins leaves) ≡ true

@@ -1,9 +1,9 @@
 -- What a request needs, in the order in which it is asked for.
-use Rattle.std.specs.Prelude.{ℕ, ◌==◌, Bool, not, true, false, ◌&&◌, List, [], ◌∷◌, ◌++◌, map, Option, Some, None, is_some, if◌then◌else◌}
+use Rattle.std.specs.Prelude.{ℕ, Bool, not, false, ◌&&◌, List, [], ◌∷◌, ◌++◌, map, Option, Some, None, is_some, if◌then◌else◌}
 use Rattle.std.specs.List.{flat_map, find, list_any}
 use Rattle.std.specs.Str.{bytes_eq}
 use Rattle.digest_gate.specs.declared.digest.Digest.{Digest}
-use Rattle.closure_plan.specs.Names.{Name, is_name}
+use Rattle.closure_plan.specs.Names.{Name}
 use Rattle.closure_request.specs.Request.{Asking}
 use Rattle.closure_request.specs.Slots.{slot_at, numbers}
 use Rattle.closure_plan.specs.Given.{Pins, LeafRows, pin_at, is_at, wanted}

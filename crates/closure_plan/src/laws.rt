@@ -1,6 +1,6 @@
 //! Laws of the closure, each the contract of a function that does nothing.
 
-ghost use Rattle.closure_plan.specs.Laws.{ClosureIsGiven, ClosureIsThatOfWorld, GivenIsInClosure, GivenStays, NothingIsAdded, OrderChangesNothing, ReachIsLeast, ReachStays, RoundsGrow, WantedStays};
+ghost use Rattle.closure_plan.specs.Laws.{ClosureIsGiven, ClosureIsThatOfWorld, EndIsDone, GivenIsInClosure, GivenStays, NothingIsAdded, OrderChangesNothing, ReachIsLeast, ReachStays, RoundsGrow, WantedStays};
 
 /// Rounds keep what was reached, and end: what is reached has the root names and all that it leads
 /// to, nothing is added after that, and no smaller list of names is so.
@@ -29,4 +29,9 @@ pub fn more_only_adds()
 pub fn order_changes_nothing()
     ensures order { OrderChangesNothing }
     ensures world { ClosureIsThatOfWorld }
+{}
+
+/// A plan without marks whose `next` is None is done.
+pub fn the_end_is_done()
+    ensures done { EndIsDone }
 {}

@@ -16,6 +16,8 @@ mod sources;
 
 pub use answer::{Answer, AnswerRow, Part};
 pub use holders::{LeafHolder, PinHolder};
-pub use laws::{closure_is_what_is_given, more_only_adds, order_changes_nothing, rounds_end};
+pub use laws::{
+    closure_is_what_is_given, more_only_adds, order_changes_nothing, rounds_end, the_end_is_done,
+};
 pub use need::Need;
 pub use plan::Plan;

@@ -5,7 +5,7 @@ use Rattle.shard_file.specs.Rows as shards
 use Rattle.shard_file.specs.Rows.{Row}
 use Rattle.shard_file.specs.Seen.{row_seen}
 use Rattle.closure_plan.specs.Given.{LeafRows}
-use Rattle.closure_plan.specs.Closure.{Found, found}
+use Rattle.closure_plan.specs.Closure.{found}
 use Rattle.closure_plan.specs.Plan.{Known, Placed, leaf_of, leaves_of}
 use Rattle.closure_plan.specs.Rows.{IsThere, leaf_or_none, no_leaf}
 use Rattle.closure_plan.proofs.RowLemmas.{leaf_there, row_there}

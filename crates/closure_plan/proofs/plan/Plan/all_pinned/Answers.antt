@@ -1,7 +1,7 @@
-use Rattle.std.proofs.Common.{◌≡◌, ◌∙◌, ◌<◌, sym, subst}
+use Rattle.std.proofs.Common.{◌∙◌, ◌<◌, sym, subst}
 use Rattle.closure_plan.specs.Needs.{is_given, the_index}
 use Rattle.closure_plan.specs.Plan.{its_pins, its_leaves}
-use Rattle.closure_plan.proofs.LoopLemmas.{map_passed, map_failed}
+use Rattle.closure_plan.proofs.LoopLemmas.{map_passed}
 use Rattle.closure_plan.proofs.plan.Plan.all_pinned.Goals as goal
 
 pub loop-slot-preserved : goal.loop-slot-preserved

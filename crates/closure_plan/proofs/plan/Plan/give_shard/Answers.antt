@@ -1,10 +1,9 @@
-use Rattle.std.proofs.Common.{◌≡◌, ◌∙◌, ◌+◌, ◌*◌, ◌<◌, ◌≤◌, length, ◌++◌, ◌∷◌, [], sym, ap, subst, List, ℕ, arith, rules}
+use Rattle.std.proofs.Common.{◌≡◌, ◌∙◌, ◌+◌, ◌*◌, ◌≤◌, length, ◌++◌, ◌∷◌, [], sym, ap, subst, arith, rules}
 use Rattle.std.specs.Prelude.{vec_capacity}
 use Rattle.std.proofs.lemmas.Fn.{filter_same}
-use Rattle.digest_gate.specs.Digest.{digest_of}
 use Rattle.shard_file.specs.Rows as shards
 use Rattle.closure_plan.specs.declared.need.Need.TheVariants as need
-use Rattle.closure_plan.specs.Plan.{Placed, Planned, its_pins, name_at, digest_of_need, has_need, without}
+use Rattle.closure_plan.specs.Plan.{Planned, its_pins, digest_of_need, has_need, without}
 use Rattle.closure_request.specs.Slots.{slots}
 use Rattle.closure_plan.specs.Ready.{IsReady}
 use Rattle.closure_plan.proofs.ReadyLemmas.{holds_ready, cells_ready, place_ready}

@@ -1,9 +1,9 @@
-use Rattle.std.proofs.Common.{◌≡◌, ◌∙◌, ◌<◌, sym, subst}
+use Rattle.std.proofs.Common.{◌∙◌, ◌<◌, sym, subst}
 use Rattle.std.specs.Prelude.{is_some}
 use Rattle.closure_plan.specs.Given.{wanted}
 use Rattle.closure_plan.specs.Needs.{is_given, the_shard}
 use Rattle.closure_plan.specs.Plan.{its_pins, its_leaves, name_at}
-use Rattle.closure_plan.proofs.LoopLemmas.{some_all_passed, some_all_failed}
+use Rattle.closure_plan.proofs.LoopLemmas.{some_all_passed}
 use Rattle.closure_plan.proofs.plan.Plan.has_each.Goals as goal
 
 pub loop-slot-preserved : goal.loop-slot-preserved

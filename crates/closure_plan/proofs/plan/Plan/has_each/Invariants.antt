@@ -1,7 +1,7 @@
 use Rattle.std.proofs.Common.{◌≡◌, ◌-◌, length, flat_map}
 use Rattle.std.specs.Prelude.{is_some}
 use Rattle.std.specs.List.{list_all, range_with_len}
-use Rattle.closure_request.specs.Slots.{numbers, slots}
+use Rattle.closure_request.specs.Slots.{slots}
 use Rattle.closure_plan.specs.Given.{wanted}
 use Rattle.closure_plan.specs.Needs.{is_given, the_shard, shards_of}
 use Rattle.closure_plan.specs.Plan.{its_pins, its_leaves, name_at}

@@ -1,4 +1,4 @@
-use Rattle.std.proofs.Common.{rules, ◌≡◌, ℕ, ◌<◌, length, sym, ap, subst, ◌∙◌, Option}
+use Rattle.std.proofs.Common.{rules, ◌≡◌, ℕ, ◌<◌, length, ap, subst, ◌∙◌, Option}
 use Rattle.std.specs.Prelude.{IfSome}
 use Rattle.std.proofs.lemmas.List.{length-map}
 use Rattle.closure_plan.specs.Plan.{Planned, leaf_of, leaves_of}

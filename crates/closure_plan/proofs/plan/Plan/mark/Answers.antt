@@ -1,4 +1,4 @@
-use Rattle.std.proofs.Common.{◌≡◌, ◌∙◌, sym, ap, subst, refl, arith}
+use Rattle.std.proofs.Common.{◌∙◌, sym, ap, subst, arith}
 use Rattle.closure_plan.specs.Plan.{Planned, IsNeed, its_pins, has_given, has_need}
 use Rattle.closure_plan.proofs.KeepLemmas.{holds_marked, room_to_mark}
 use Rattle.closure_plan.proofs.plan.Plan.mark.Goals as goal

@@ -1,4 +1,4 @@
-use Rattle.std.proofs.Common.{◌≡◌, ◌∙◌, ◌<◌, ◌++◌, length, take, filter, flat_map, sym, subst, []}
+use Rattle.std.proofs.Common.{◌<◌, take, filter, flat_map, sym, subst, []}
 use Rattle.std.specs.List.{slice_get}
 use Rattle.closure_plan.specs.Given.{gives, deps_of, deps_if}
 use Rattle.closure_plan.specs.Fresh.{Grows}

@@ -1,4 +1,3 @@
-use Rattle.std.proofs.Common.{◌≡◌, ◌∙◌, sym, ap, subst, flat_map, []}
 use Rattle.closure_plan.proofs.FreshLemmas.{given_rows}
 use Rattle.closure_plan.proofs.plan.Plan.new_names.Goals as goal
 

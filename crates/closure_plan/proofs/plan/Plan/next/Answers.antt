@@ -1,4 +1,4 @@
-use Rattle.std.proofs.Common.{◌≡◌, map, flat_map}
+use Rattle.std.proofs.Common.{map, flat_map}
 use Rattle.closure_request.specs.Slots.{numbers}
 use Rattle.closure_plan.specs.Closure.{reach}
 use Rattle.closure_plan.specs.Needs.{the_index, shards_of}

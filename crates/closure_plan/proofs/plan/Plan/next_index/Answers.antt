@@ -1,4 +1,4 @@
-use Rattle.std.proofs.Common.{◌≡◌, ◌∙◌, ◌<◌, sym, subst}
+use Rattle.std.proofs.Common.{◌∙◌, ◌<◌, sym, subst}
 use Rattle.closure_plan.specs.Needs.{the_index}
 use Rattle.closure_plan.specs.Plan.{may_ask}
 use Rattle.closure_plan.proofs.LoopLemmas.{find_passed, find_stops}

@@ -1,4 +1,4 @@
-use Rattle.std.proofs.Common.{◌≡◌, ◌∙◌, ◌<◌, sym, subst}
+use Rattle.std.proofs.Common.{◌∙◌, ◌<◌, sym, subst}
 use Rattle.std.specs.Prelude.{is_some}
 use Rattle.closure_plan.specs.Given.{wanted}
 use Rattle.closure_plan.specs.Needs.{the_shard}

@@ -1,7 +1,7 @@
-use Rattle.std.proofs.Common.{◌≡◌, ◌-◌, length, cond, [], ◌∷◌, find, flat_map}
+use Rattle.std.proofs.Common.{◌≡◌, ◌-◌, length, find, flat_map}
 use Rattle.std.specs.Prelude.{is_some}
 use Rattle.std.specs.List.{range_with_len}
-use Rattle.closure_request.specs.Slots.{numbers, slots}
+use Rattle.closure_request.specs.Slots.{slots}
 use Rattle.closure_plan.specs.Given.{wanted}
 use Rattle.closure_plan.specs.Needs.{the_shard, shards_of}
 use Rattle.closure_plan.specs.Plan.{may_ask, its_pins, name_at}

@@ -1,4 +1,4 @@
-use Rattle.std.proofs.Common.{◌≡◌, ◌∙◌, ◌<◌, sym, ap, subst, refl, filter, rules, not, length, true}
+use Rattle.std.proofs.Common.{◌≡◌, ◌∙◌, ap, refl, rules}
 use Rattle.std.proofs.lemmas.Fn.{filter_same}
 use Rattle.closure_plan.specs.declared.need.Need.TheVariants as need
 use Rattle.closure_plan.specs.Plan.{Planned, has_need, without}

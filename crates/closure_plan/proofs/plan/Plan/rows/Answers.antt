@@ -1,4 +1,4 @@
-use Rattle.std.proofs.Common.{◌≡◌, ◌∙◌, sym, ap, subst, [], flat_map}
+use Rattle.std.proofs.Common.{sym, subst, [], flat_map}
 use Rattle.std.specs.List.{range_with_len}
 use Rattle.closure_plan.specs.Closure.{closure_in}
 use Rattle.closure_plan.specs.Rows.{Adds}

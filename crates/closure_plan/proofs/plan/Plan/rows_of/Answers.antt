@@ -1,7 +1,7 @@
-use Rattle.std.proofs.Common.{◌≡◌, ◌∙◌, sym, ap, subst, Some, find, true}
+use Rattle.std.proofs.Common.{◌≡◌, subst, true}
 use Rattle.std.specs.Prelude.{OnOk, is_some}
 use Rattle.std.specs.List.{AllByRecursion}
-use Rattle.closure_plan.specs.Given.{LeafRows, is_at, wanted}
+use Rattle.closure_plan.specs.Given.{LeafRows, wanted}
 use Rattle.closure_plan.specs.Rows.{Adds, leaf_or_none}
 use Rattle.closure_plan.specs.Plan.{Planned, its_pins, its_leaves, name_at}
 use Rattle.closure_plan.proofs.RowLemmas.{given_by}

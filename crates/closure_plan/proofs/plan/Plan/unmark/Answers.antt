@@ -1,9 +1,6 @@
-use Rattle.std.proofs.Common.{◌≡◌, ◌∙◌, sym, ap, subst, subst₂, refl, filter, rules, not, List}
+use Rattle.std.proofs.Common.{◌≡◌, refl, rules}
 use Rattle.std.proofs.lemmas.Fn.{filter_same}
-use Rattle.std.specs.Prelude.{vec_capacity}
-use Rattle.closure_plan.specs.declared.need.Need.{Need}
-use Rattle.closure_plan.specs.Plan.{same_need, without, Planned}
-use Rattle.closure_plan.specs.Inside.{Holds}
+use Rattle.closure_plan.specs.Plan.{without}
 use Rattle.closure_plan.proofs.KeepLemmas.{holds_unmarked}
 use Rattle.closure_plan.proofs.plan.Plan.unmark.Goals as goal
 

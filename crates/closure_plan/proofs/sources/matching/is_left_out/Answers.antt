@@ -1,4 +1,4 @@
-use Rattle.std.proofs.Common.{◌≡◌, ◌∙◌, ap}
+use Rattle.std.proofs.Common.{◌∙◌, ap}
 use Rattle.std.specs.Prelude.{is_some}
 use Rattle.shard_file.specs.Seen.{row_seen}
 use Rattle.closure_plan.proofs.TwinLemmas.{twin_left}
