@@ -25,12 +25,17 @@ enum Kind {
 
 // The address of the one reply.
 fn address(alloc: Global) -> anyhow::Result<HttpUrl> {
-    HttpUrl::read(alloc, "http://h/c/noarch/shards/x.msgpack").map_err(|_| anyhow!("it is an address"))
+    HttpUrl::read(alloc, "http://h/c/noarch/shards/x.msgpack").map_err(|_| anyhow!(
+        "it is an address"
+    ))
 }
 
 // The one that serves some bytes, with their length.
 fn server(alloc: Global, bytes: &[u8]) -> anyhow::Result<ScriptDial> {
-    let head = format!(in alloc; "HTTP/1.1 200 OK\r\nContent-Length: {}\r\n\r\n", bytes.len())?;
+    let head = format!(in alloc;
+        "HTTP/1.1 200 OK\r\nContent-Length: {}\r\n\r\n",
+        bytes.len()
+    )?;
     let mut reply = head.as_bytes().to_vec(alloc)?;
     reply.extend_from_slice(bytes)?;
     let mut replies = Vec::new(alloc);
@@ -51,7 +56,11 @@ fn target(alloc: Global, kind: Kind, digest: Digest) -> anyhow::Result<Target>
 }
 
 // A parcel over which nothing went.
-fn begun(alloc: Global, server: &mut ScriptDial, target: Target) -> anyhow::Result<Parcel<ScriptConn>>
+fn begun(
+    alloc: Global,
+    server: &mut ScriptDial,
+    target: Target,
+) -> anyhow::Result<Parcel<ScriptConn>>
     requires plain { IsPlain target }
     ensures whole { IfOk result (λ parcel. parcel.broken ≡ false) }
     ensures undecided { IfOk result IsUndecided }

@@ -34,64 +34,205 @@ enum Wanted {
 // A reply for an index, and what it comes to.
 const INDEXES: [(&[u8], Wanted); 27] = [
     // An index, and what may stand round it.
-    (b"HTTP/1.1 200 OK\r\nContent-Length: 9\r\n\r\n\x81\xa6shards\x80", Index(9)),
-    (b"HTTP/1.1 200 OK\r\nContent-Length: 9\r\n\r\n\x81\xa6shards\x80HTTP/1.1 404 N\r\n\r\n", Index(9)),
+    (
+        b"HTTP/1.1 200 OK\r\nContent-Length: 9\r\n\r\n\x81\xa6shards\x80",
+        Index(9),
+    ),
+    (
+        b"HTTP/1.1 200 OK\r\nContent-Length: 9\r\n\r\n\x81\xa6shards\x80HTTP/1.1 404 N\r\n\r\n",
+        Index(9),
+    ),
     (b"HTTP/1.1 200 OK\r\n\r\n\x81\xa6shards\x80", Index(9)),
-    (b"HTTP/1.0 200\nContent-Length:9\n\n\x81\xa6shards\x80", Index(9)),
-    (b"HTTP/1.1 200 OK\r\nContent-Length: 76\r\n\r\n\x83\xa7version\x01\xa4info\x83\xa8base_url\xa2./\xafshards_base_url\xa9./shards/\xa6subdir\xa6noarch\xa6shards\x80", Index(76)),
-    (b"HTTP/1.1 200 OK\r\nContent-Length: 42\r\n\r\n\x82\xa4info\x81\xafshards_base_url\xaahttp://m/x\xa6shards\x80", Index(42)),
+    (
+        b"HTTP/1.0 200\nContent-Length:9\n\n\x81\xa6shards\x80",
+        Index(9),
+    ),
+    (
+        b"HTTP/1.1 200 OK\r\nContent-Length: 76\r\n\r\n\x83\xa7version\x01\xa4info\x83\xa8base_url\xa2./\xafshards_base_url\xa9./shards/\xa6subdir\xa6noarch\xa6shards\x80",
+        Index(76),
+    ),
+    (
+        b"HTTP/1.1 200 OK\r\nContent-Length: 42\r\n\r\n\x82\xa4info\x81\xafshards_base_url\xaahttp://m/x\xa6shards\x80",
+        Index(42),
+    ),
     // Other statuses, whatever the body.
-    (b"HTTP/1.1 404 Not Found\r\nContent-Length: 9\r\n\r\n\x81\xa6shards\x80", Absent),
+    (
+        b"HTTP/1.1 404 Not Found\r\nContent-Length: 9\r\n\r\n\x81\xa6shards\x80",
+        Absent,
+    ),
     (b"HTTP/1.1 410 Gone\r\n\r\n", Absent),
-    (b"HTTP/1.1 500 Internal Server Error\r\n\r\n\x81\xa6shards\x80", Status(500)),
-    (b"HTTP/1.1 301 Moved Permanently\r\nLocation: http://h/\r\n\r\n", Status(301)),
-    (b"HTTP/1.1 100 Continue\r\n\r\nHTTP/1.1 200 OK\r\nContent-Length: 9\r\n\r\n\x81\xa6shards\x80", Status(100)),
-    (b"HTTP/1.1 206 Partial Content\r\nContent-Length: 9\r\n\r\n\x81\xa6shards\x80", Status(206)),
+    (
+        b"HTTP/1.1 500 Internal Server Error\r\n\r\n\x81\xa6shards\x80",
+        Status(500),
+    ),
+    (
+        b"HTTP/1.1 301 Moved Permanently\r\nLocation: http://h/\r\n\r\n",
+        Status(301),
+    ),
+    (
+        b"HTTP/1.1 100 Continue\r\n\r\nHTTP/1.1 200 OK\r\nContent-Length: 9\r\n\r\n\x81\xa6shards\x80",
+        Status(100),
+    ),
+    (
+        b"HTTP/1.1 206 Partial Content\r\nContent-Length: 9\r\n\r\n\x81\xa6shards\x80",
+        Status(206),
+    ),
     // No reply of the accepted form.
-    (b"HTTP/1.2 200 OK\r\nContent-Length: 9\r\n\r\n\x81\xa6shards\x80", BadReply),
-    (b"HTTP/1.1 200 OK\r\nTransfer-Encoding: chunked\r\n\r\n9\r\n\x81\xa6shards\x80\r\n0\r\n\r\n", BadReply),
-    (b"HTTP/1.1 200 OK\r\nContent-Length: 9\r\nContent-Length: 10\r\n\r\n\x81\xa6shards\x80", BadReply),
-    (b"HTTP/1.1 200 OK\r\nContent-Length: x\r\n\r\n\x81\xa6shards\x80", BadReply),
+    (
+        b"HTTP/1.2 200 OK\r\nContent-Length: 9\r\n\r\n\x81\xa6shards\x80",
+        BadReply,
+    ),
+    (
+        b"HTTP/1.1 200 OK\r\nTransfer-Encoding: chunked\r\n\r\n9\r\n\x81\xa6shards\x80\r\n0\r\n\r\n",
+        BadReply,
+    ),
+    (
+        b"HTTP/1.1 200 OK\r\nContent-Length: 9\r\nContent-Length: 10\r\n\r\n\x81\xa6shards\x80",
+        BadReply,
+    ),
+    (
+        b"HTTP/1.1 200 OK\r\nContent-Length: x\r\n\r\n\x81\xa6shards\x80",
+        BadReply,
+    ),
     (b"<html></html>", BadReply),
     (b"", BadReply),
-    (b"HTTP/1.1 200 OK\r\nContent-Length: 10\r\n\r\n\x81\xa6shards\x80", BadReply),
+    (
+        b"HTTP/1.1 200 OK\r\nContent-Length: 10\r\n\r\n\x81\xa6shards\x80",
+        BadReply,
+    ),
     // Too long.
-    (b"HTTP/1.1 200 OK\r\nContent-Length: 33554433\r\n\r\n\x81\xa6shards\x80", TooLong),
+    (
+        b"HTTP/1.1 200 OK\r\nContent-Length: 33554433\r\n\r\n\x81\xa6shards\x80",
+        TooLong,
+    ),
     // A body that is no index.
-    (b"HTTP/1.1 200 OK\r\nContent-Length: 0\r\n\r\n", Format(Short, 0)),
-    (b"HTTP/1.1 200 OK\r\nContent-Length: 1\r\n\r\n\x80", Format(Missing, 1)),
-    (b"HTTP/1.1 200 OK\r\nContent-Length: 10\r\n\r\n\x81\xa6shards\x80\x00", Format(Trailing, 9)),
-    (b"HTTP/1.1 200 OK\r\nContent-Length: 18\r\n\r\n\x82\xa7version\x02\xa6shards\x80", Format(Version, 9)),
-    (b"HTTP/1.1 200 OK\r\nContent-Length: 36\r\n\r\n\x83\xa8packages\x80\xaepackages.conda\x80\xa7removed\x90", Format(Missing, 36)),
+    (
+        b"HTTP/1.1 200 OK\r\nContent-Length: 0\r\n\r\n",
+        Format(Short, 0),
+    ),
+    (
+        b"HTTP/1.1 200 OK\r\nContent-Length: 1\r\n\r\n\x80",
+        Format(Missing, 1),
+    ),
+    (
+        b"HTTP/1.1 200 OK\r\nContent-Length: 10\r\n\r\n\x81\xa6shards\x80\x00",
+        Format(Trailing, 9),
+    ),
+    (
+        b"HTTP/1.1 200 OK\r\nContent-Length: 18\r\n\r\n\x82\xa7version\x02\xa6shards\x80",
+        Format(Version, 9),
+    ),
+    (
+        b"HTTP/1.1 200 OK\r\nContent-Length: 36\r\n\r\n\x83\xa8packages\x80\xaepackages.conda\x80\xa7removed\x90",
+        Format(Missing, 36),
+    ),
     // An index whose base of shards is none.
-    (b"HTTP/1.1 200 OK\r\nContent-Length: 42\r\n\r\n\x82\xa4info\x81\xafshards_base_url\xaahttps://m/\xa6shards\x80", Base(UrlFault::Scheme)),
-    (b"HTTP/1.1 200 OK\r\nContent-Length: 34\r\n\r\n\x82\xa4info\x81\xafshards_base_url\xa2?x\xa6shards\x80", Base(UrlFault::Url)),
+    (
+        b"HTTP/1.1 200 OK\r\nContent-Length: 42\r\n\r\n\x82\xa4info\x81\xafshards_base_url\xaahttps://m/\xa6shards\x80",
+        Base(UrlFault::Scheme),
+    ),
+    (
+        b"HTTP/1.1 200 OK\r\nContent-Length: 34\r\n\r\n\x82\xa4info\x81\xafshards_base_url\xa2?x\xa6shards\x80",
+        Base(UrlFault::Url),
+    ),
 ];
 
 // The bytes whose digest is asked for, a reply, and what it comes to.
 const SHARDS: [(&[u8], &[u8], Wanted); 18] = [
     // A shard, and what may stand round it.
-    (b"\x83\xa8packages\x80\xaepackages.conda\x80\xa7removed\x90", b"HTTP/1.1 200 OK\r\nContent-Length: 36\r\n\r\n\x83\xa8packages\x80\xaepackages.conda\x80\xa7removed\x90", Shard(36)),
-    (b"\x83\xa8packages\x80\xaepackages.conda\x80\xa7removed\x90", b"HTTP/1.1 200 OK\r\nContent-Length: 36\r\n\r\n\x83\xa8packages\x80\xaepackages.conda\x80\xa7removed\x90\x00\x01", Shard(36)),
-    (b"\x83\xa8packages\x80\xaepackages.conda\x80\xa7removed\x90", b"HTTP/1.1 200 OK\r\n\r\n\x83\xa8packages\x80\xaepackages.conda\x80\xa7removed\x90", Shard(36)),
-    (b"\x81\xaepackages.conda\x81\xaba-1-0.conda\x83\xa4name\xa1a\xa7version\xa11\xa5build\xa10", b"HTTP/1.1 200 OK\r\nContent-Length: 55\r\n\r\n\x81\xaepackages.conda\x81\xaba-1-0.conda\x83\xa4name\xa1a\xa7version\xa11\xa5build\xa10", Shard(55)),
+    (
+        b"\x83\xa8packages\x80\xaepackages.conda\x80\xa7removed\x90",
+        b"HTTP/1.1 200 OK\r\nContent-Length: 36\r\n\r\n\x83\xa8packages\x80\xaepackages.conda\x80\xa7removed\x90",
+        Shard(36),
+    ),
+    (
+        b"\x83\xa8packages\x80\xaepackages.conda\x80\xa7removed\x90",
+        b"HTTP/1.1 200 OK\r\nContent-Length: 36\r\n\r\n\x83\xa8packages\x80\xaepackages.conda\x80\xa7removed\x90\x00\x01",
+        Shard(36),
+    ),
+    (
+        b"\x83\xa8packages\x80\xaepackages.conda\x80\xa7removed\x90",
+        b"HTTP/1.1 200 OK\r\n\r\n\x83\xa8packages\x80\xaepackages.conda\x80\xa7removed\x90",
+        Shard(36),
+    ),
+    (
+        b"\x81\xaepackages.conda\x81\xaba-1-0.conda\x83\xa4name\xa1a\xa7version\xa11\xa5build\xa10",
+        b"HTTP/1.1 200 OK\r\nContent-Length: 55\r\n\r\n\x81\xaepackages.conda\x81\xaba-1-0.conda\x83\xa4name\xa1a\xa7version\xa11\xa5build\xa10",
+        Shard(55),
+    ),
     // Bytes of another digest, whether they are a shard or not.
-    (b"\x81\xaepackages.conda\x81\xaba-1-0.conda\x83\xa4name\xa1a\xa7version\xa11\xa5build\xa10", b"HTTP/1.1 200 OK\r\nContent-Length: 36\r\n\r\n\x83\xa8packages\x80\xaepackages.conda\x80\xa7removed\x90", OtherDigest),
-    (b"\x83\xa8packages\x80\xaepackages.conda\x80\xa7removed\x90", b"HTTP/1.1 200 OK\r\n\r\n\x83\xa8packages\x80\xaepackages.conda\x80\xa7removed\x90\x00", OtherDigest),
-    (b"\x83\xa8packages\x80\xaepackages.conda\x80\xa7removed\x90", b"HTTP/1.1 200 OK\r\nContent-Length: 36\r\n\r\n\x83\xa8packages\x80\xaepackages.conda\x80\xa7removed\x91", OtherDigest),
-    (b"\x83\xa8packages\x80\xaepackages.conda\x80\xa7removed\x90", b"HTTP/1.1 200 OK\r\nContent-Length: 0\r\n\r\n", OtherDigest),
+    (
+        b"\x81\xaepackages.conda\x81\xaba-1-0.conda\x83\xa4name\xa1a\xa7version\xa11\xa5build\xa10",
+        b"HTTP/1.1 200 OK\r\nContent-Length: 36\r\n\r\n\x83\xa8packages\x80\xaepackages.conda\x80\xa7removed\x90",
+        OtherDigest,
+    ),
+    (
+        b"\x83\xa8packages\x80\xaepackages.conda\x80\xa7removed\x90",
+        b"HTTP/1.1 200 OK\r\n\r\n\x83\xa8packages\x80\xaepackages.conda\x80\xa7removed\x90\x00",
+        OtherDigest,
+    ),
+    (
+        b"\x83\xa8packages\x80\xaepackages.conda\x80\xa7removed\x90",
+        b"HTTP/1.1 200 OK\r\nContent-Length: 36\r\n\r\n\x83\xa8packages\x80\xaepackages.conda\x80\xa7removed\x91",
+        OtherDigest,
+    ),
+    (
+        b"\x83\xa8packages\x80\xaepackages.conda\x80\xa7removed\x90",
+        b"HTTP/1.1 200 OK\r\nContent-Length: 0\r\n\r\n",
+        OtherDigest,
+    ),
     // Bytes of the right digest that are no shard.
-    (b"\xc1", b"HTTP/1.1 200 OK\r\nContent-Length: 1\r\n\r\n\xc1", Format(Reserved, 0)),
-    (b"", b"HTTP/1.1 200 OK\r\nContent-Length: 0\r\n\r\n", Format(Short, 0)),
-    (b"\x83\xa8packages\x80\xaepackages.conda\x80\xa7removed\x90\x00", b"HTTP/1.1 200 OK\r\nContent-Length: 37\r\n\r\n\x83\xa8packages\x80\xaepackages.conda\x80\xa7removed\x90\x00", Format(Trailing, 36)),
-    (b"\x81\xa8packages\x90", b"HTTP/1.1 200 OK\r\n\r\n\x81\xa8packages\x90", Format(Wrong, 10)),
+    (
+        b"\xc1",
+        b"HTTP/1.1 200 OK\r\nContent-Length: 1\r\n\r\n\xc1",
+        Format(Reserved, 0),
+    ),
+    (
+        b"",
+        b"HTTP/1.1 200 OK\r\nContent-Length: 0\r\n\r\n",
+        Format(Short, 0),
+    ),
+    (
+        b"\x83\xa8packages\x80\xaepackages.conda\x80\xa7removed\x90\x00",
+        b"HTTP/1.1 200 OK\r\nContent-Length: 37\r\n\r\n\x83\xa8packages\x80\xaepackages.conda\x80\xa7removed\x90\x00",
+        Format(Trailing, 36),
+    ),
+    (
+        b"\x81\xa8packages\x90",
+        b"HTTP/1.1 200 OK\r\n\r\n\x81\xa8packages\x90",
+        Format(Wrong, 10),
+    ),
     // Other statuses, and no reply.
-    (b"\x83\xa8packages\x80\xaepackages.conda\x80\xa7removed\x90", b"HTTP/1.1 404 Not Found\r\nContent-Length: 36\r\n\r\n\x83\xa8packages\x80\xaepackages.conda\x80\xa7removed\x90", Absent),
-    (b"\x83\xa8packages\x80\xaepackages.conda\x80\xa7removed\x90", b"HTTP/1.1 410 Gone\r\n\r\n", Absent),
-    (b"\x83\xa8packages\x80\xaepackages.conda\x80\xa7removed\x90", b"HTTP/1.1 503 Service Unavailable\r\nRetry-After: 1\r\n\r\n\x83\xa8packages\x80\xaepackages.conda\x80\xa7removed\x90", Status(503)),
-    (b"\x83\xa8packages\x80\xaepackages.conda\x80\xa7removed\x90", b"HTTP/1.1 200 OK\r\ntransfer-encoding: identity\r\n\r\n\x83\xa8packages\x80\xaepackages.conda\x80\xa7removed\x90", BadReply),
-    (b"\x83\xa8packages\x80\xaepackages.conda\x80\xa7removed\x90", b"HTTP/1.1 200 OK\r\nContent-Length: 37\r\n\r\n\x83\xa8packages\x80\xaepackages.conda\x80\xa7removed\x90", BadReply),
-    (b"\x83\xa8packages\x80\xaepackages.conda\x80\xa7removed\x90", b"HTTP/1.1 200 OK\r\nContent-Length: 33554433\r\n\r\n\x83\xa8packages\x80\xaepackages.conda\x80\xa7removed\x90", TooLong),
+    (
+        b"\x83\xa8packages\x80\xaepackages.conda\x80\xa7removed\x90",
+        b"HTTP/1.1 404 Not Found\r\nContent-Length: 36\r\n\r\n\x83\xa8packages\x80\xaepackages.conda\x80\xa7removed\x90",
+        Absent,
+    ),
+    (
+        b"\x83\xa8packages\x80\xaepackages.conda\x80\xa7removed\x90",
+        b"HTTP/1.1 410 Gone\r\n\r\n",
+        Absent,
+    ),
+    (
+        b"\x83\xa8packages\x80\xaepackages.conda\x80\xa7removed\x90",
+        b"HTTP/1.1 503 Service Unavailable\r\nRetry-After: 1\r\n\r\n\x83\xa8packages\x80\xaepackages.conda\x80\xa7removed\x90",
+        Status(503),
+    ),
+    (
+        b"\x83\xa8packages\x80\xaepackages.conda\x80\xa7removed\x90",
+        b"HTTP/1.1 200 OK\r\ntransfer-encoding: identity\r\n\r\n\x83\xa8packages\x80\xaepackages.conda\x80\xa7removed\x90",
+        BadReply,
+    ),
+    (
+        b"\x83\xa8packages\x80\xaepackages.conda\x80\xa7removed\x90",
+        b"HTTP/1.1 200 OK\r\nContent-Length: 37\r\n\r\n\x83\xa8packages\x80\xaepackages.conda\x80\xa7removed\x90",
+        BadReply,
+    ),
+    (
+        b"\x83\xa8packages\x80\xaepackages.conda\x80\xa7removed\x90",
+        b"HTTP/1.1 200 OK\r\nContent-Length: 33554433\r\n\r\n\x83\xa8packages\x80\xaepackages.conda\x80\xa7removed\x90",
+        TooLong,
+    ),
 ];
 
 const URL: &str = "http://h/c/noarch/repodata_shards.msgpack";
@@ -212,7 +353,13 @@ fn index_by(
 
 // What a reply for the shard with the digest of some bytes comes to, in pieces of so many bytes.
 fn shard_by(alloc: Global, bytes: &[u8], reply: &[u8], piece: usize) -> Result<Wanted, Fail> {
-    let parcel = begun(alloc, shard(alloc, bytes)?, reply.to_vec(alloc)?, piece, &[])?;
+    let parcel = begun(
+        alloc,
+        shard(alloc, bytes)?,
+        reply.to_vec(alloc)?,
+        piece,
+        &[],
+    )?;
     Ok(came(&*fly(alloc, parcel)?))
 }
 
@@ -246,7 +393,10 @@ fn is_shard_always(
 #[test]
 fn replies_for_an_index_come_to_it_or_to_a_cause(rt: HostRuntime) -> Result<(), Fail> {
     for (reply, wanted) in INDEXES {
-        assert!(rt; is_index_always(rt.alloc(), reply, wanted)?, "{wanted:?}: {reply:?}");
+        assert!(rt;
+            is_index_always(rt.alloc(), reply, wanted)?,
+            "{wanted:?}: {reply:?}"
+        );
     }
     Ok(())
 }
@@ -254,7 +404,10 @@ fn replies_for_an_index_come_to_it_or_to_a_cause(rt: HostRuntime) -> Result<(), 
 #[test]
 fn replies_for_a_shard_come_to_it_or_to_a_cause(rt: HostRuntime) -> Result<(), Fail> {
     for (bytes, reply, wanted) in SHARDS {
-        assert!(rt; is_shard_always(rt.alloc(), bytes, reply, wanted)?, "{wanted:?}: {reply:?}");
+        assert!(rt;
+            is_shard_always(rt.alloc(), bytes, reply, wanted)?,
+            "{wanted:?}: {reply:?}"
+        );
     }
     Ok(())
 }
@@ -282,9 +435,7 @@ fn line(call: u64, trick: Trick) -> ScriptLine {
 // The good reply comes in pieces of 8 bytes: call 0 sends the request, calls 1 to 5 give its head, and
 // calls 5 and 6 its body, which decides it.
 #[test]
-fn a_connection_that_fails_is_the_cause_before_the_last_byte(
-    rt: HostRuntime,
-) -> Result<(), Fail> {
+fn a_connection_that_fails_is_the_cause_before_the_last_byte(rt: HostRuntime) -> Result<(), Fail> {
     for call in 0..7u64 {
         let failed = index_by(rt.alloc(), GOOD, 8, &[line(call, Trick::Fail)])?;
         assert!(rt; failed == Wanted::Link, "call {call}");

@@ -73,12 +73,7 @@ fn reply_after(head: Head, size: usize, ended: bool) -> Reply
 {
     match head.status {
         404 | 410 => Reply::Absent,
-        200 => body_by(
-            head.framing,
-            head.len,
-            size.saturating_sub(head.len),
-            ended,
-        ),
+        200 => body_by(head.framing, head.len, size.saturating_sub(head.len), ended),
         status => Reply::Status(status),
     }
 }

@@ -7,9 +7,7 @@
 
 mod request;
 
-pub use http_head::{
-    BODY_LIMIT, FIELD_LIMIT, Frame, HEAD_LIMIT, Reply, is_settled, judge_head,
-};
+pub use http_head::{BODY_LIMIT, FIELD_LIMIT, Frame, HEAD_LIMIT, Reply, is_settled, judge_head};
 pub use request::{request_size, request_text};
 
 #[cfg(test)]

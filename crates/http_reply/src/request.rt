@@ -22,8 +22,11 @@ pub fn request_size(target: &Target) -> usize
 }
 
 const SCHEME: &[u8] = b"http://";
+
 const GET: &[u8] = b"GET ";
+
 const VERSION_AND_HOST: &[u8] = b" HTTP/1.0\r\nHost: ";
+
 const ACCEPT_AND_CLOSE: &[u8] = b"\r\nAccept: */*\r\nConnection: close\r\n\r\n";
 
 // The request for an address.

@@ -15,8 +15,7 @@ module _ (old new : LinkFacts) (before whole now : List ℕ) (room : ℕ) (front
   behind : (answer : Step) → Steps old new (drop (length before) whole) answer → now ≡ take (length before + count_in answer) whole → Behind old new before now room answer
   behind (stepping.Got n) got is =
       let spare : length (drop (length before) whole) ≡ room = omega (arith, size, length-drop (length before) whole) in
-      let long : length (take n (drop (length before) whole)) ≡ n = length-take-le n (drop (length before) whole) got.within in
-      (
+      let long : length (take n (drop (length before) whole)) ≡ n = length-take-le n (drop (length before) whole) got.within in (
         take n (drop (length before) whole),
         is ∙ take-add (length before) n whole ∙ ap (λ (l : List ℕ). l ++ take n (drop (length before) whole)) front,
         long,

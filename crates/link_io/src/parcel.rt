@@ -26,7 +26,7 @@ pub struct Parcel<L: Conn> {
 
 impl<L: Conn> Model for Parcel<L> {
     ghost use Rattle.http_head.specs.Reply.{IsReply};
-ghost use Rattle.link_io.specs.Parcel.{Packed, IsParcel};
+    ghost use Rattle.link_io.specs.Parcel.{Packed, IsParcel};
 
     ghost Value = { Packed L };
 

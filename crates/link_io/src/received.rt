@@ -72,11 +72,7 @@ impl Received {
 }
 
 // One step of a connection, behind the bytes that came before.
-fn step_behind<L: Conn>(
-    link: &mut L,
-    bytes: &mut Vec<u8>,
-    room: usize,
-) -> Result<Step, AllocError>
+fn step_behind<L: Conn>(link: &mut L, bytes: &mut Vec<u8>, room: usize) -> Result<Step, AllocError>
     requires some { 0 < room }
     ensures ok { IfOk result
         (StepsBehind room (L.facts link.old) (L.facts link.new) bytes.old.items bytes.new.items) }

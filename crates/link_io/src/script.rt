@@ -284,7 +284,11 @@ mod tests {
     use std::test::Fail;
 
     fn url(alloc: Global) -> Result<HttpUrl, Fail> {
-        Ok(HttpUrl::read(alloc, "http://h/a").ok().ok_or("it is an address")?)
+        Ok(
+            HttpUrl::read(alloc, "http://h/a")
+                .ok()
+                .ok_or("it is an address")?,
+        )
     }
 
     // A world with one reply of seven bytes, given by three at most.

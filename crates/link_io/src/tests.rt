@@ -69,7 +69,10 @@ const LIMITS: [(usize, usize, Came); 9] = [
 #[test]
 fn reads_up_to_the_limit(rt: HostRuntime) -> Result<(), Fail> {
     for (piece, limit, wanted) in LIMITS {
-        assert!(rt; came_by(rt.alloc(), piece, &[], limit)? == wanted, "{piece} {limit}");
+        assert!(rt;
+            came_by(rt.alloc(), piece, &[], limit)? == wanted,
+            "{piece} {limit}"
+        );
     }
     Ok(())
 }
@@ -146,7 +149,10 @@ const WRITES: [(usize, usize, u64, &[u8], bool); 8] = [
 #[test]
 fn writes_piece_by_piece_until_one_fails(rt: HostRuntime) -> Result<(), Fail> {
     for (room, piece, number, written, done) in WRITES {
-        assert!(rt; writes(rt.alloc(), room, piece, &[number], written, done)?, "{room} {piece} {number}");
+        assert!(rt;
+            writes(rt.alloc(), room, piece, &[number], written, done)?,
+            "{room} {piece} {number}"
+        );
     }
     Ok(())
 }
