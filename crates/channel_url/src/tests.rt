@@ -327,28 +327,6 @@ fn is_more(alloc: Global, index: &HttpUrl, row: &str, refusal: Option<UrlRefusal
         && is_folder(alloc, index, text, folder)
 }
 
-fn is_refused_as_channel(alloc: Global, text: &str, refusal: Option<UrlRefusal>) -> bool {
-    channel_base(alloc, text).err() == refusal
-}
-
-fn is_refused_as_shards(
-    alloc: Global,
-    index: &HttpUrl,
-    text: &str,
-    refusal: Option<UrlRefusal>,
-) -> bool {
-    shards_base(alloc, index, text).err() == refusal
-}
-
-fn is_refused_as_package(
-    alloc: Global,
-    index: &HttpUrl,
-    text: &str,
-    refusal: Option<UrlRefusal>,
-) -> bool {
-    package_url(alloc, index, text, FILE).err() == refusal
-}
-
 // Whether a text is refused so as each of the three bases.
 fn is_refused(
     alloc: Global,
@@ -357,9 +335,9 @@ fn is_refused(
     refusals: [Option<UrlRefusal>; 3],
 ) -> bool {
     let [channel, shards, package] = refusals;
-    is_refused_as_channel(alloc, text, channel)
-        && is_refused_as_shards(alloc, index, text, shards)
-        && is_refused_as_package(alloc, index, text, package)
+    channel_base(alloc, text).err() == channel
+        && shards_base(alloc, index, text).err() == shards
+        && package_url(alloc, index, text, FILE).err() == package
 }
 
 fn address(alloc: Global, text: &str) -> Result<HttpUrl, Fail> {
@@ -387,12 +365,6 @@ fn bases_are_those_of_the_url_standard(rt: HostRuntime) -> Result<(), Fail> {
     for row in ABSOLUTE {
         assert!(rt; is_read(rt.alloc(), &index, row), "{row}");
     }
-    Ok(())
-}
-
-#[test]
-fn texts_are_joined_as_the_url_standard_says(rt: HostRuntime) -> Result<(), Fail> {
-    let index = address(rt.alloc(), INDEX)?;
     for row in RELATIVE {
         assert!(rt; is_joined(rt.alloc(), &index, row), "{row}");
     }
@@ -405,12 +377,6 @@ fn texts_that_are_no_bases_are_refused(rt: HostRuntime) -> Result<(), Fail> {
     for (row, refusal) in MORE {
         assert!(rt; is_more(rt.alloc(), &index, row, refusal), "{row}");
     }
-    Ok(())
-}
-
-#[test]
-fn texts_that_are_no_addresses_are_refused(rt: HostRuntime) -> Result<(), Fail> {
-    let index = address(rt.alloc(), INDEX)?;
     for text in NONE {
         assert!(rt;
             is_refused(rt.alloc(), &index, text, [URL, URL, URL]),
@@ -433,7 +399,7 @@ fn bases_have_limits(rt: HostRuntime) -> Result<(), Fail> {
     Ok(())
 }
 
-// The address of the index of noarch, where the base may be asked for it.
+// The address of the index of a subdir of noarch, where the base may be asked for it.
 fn index_below(alloc: Global, base: &HttpUrl) -> Result<HttpUrl, Fail> {
     if !is_slashed(base.as_str()) || base.as_str().len() > MOST_OF_CHANNEL_BASE {
         return Err("it is no base of a channel".into());
@@ -448,24 +414,15 @@ fn shard_below(alloc: Global, base: &HttpUrl) -> Result<HttpUrl, Fail> {
     Ok(shard_url(alloc, base, &Digest([0xab; 32]))?)
 }
 
-const BASE: &str = "http://h:8080/c/";
-
 #[test]
-fn indexes_stand_below_the_base_of_a_channel(rt: HostRuntime) -> Result<(), Fail> {
-    let index = index_below(rt.alloc(), &address(rt.alloc(), BASE)?)?;
+fn addresses_are_made_of_bases(rt: HostRuntime) -> Result<(), Fail> {
+    let alloc = rt.alloc();
+    let base = address(alloc, "http://h:8080/c/")?;
+    let index = index_below(alloc, &base)?;
     assert!(rt; index.as_str() == "http://h:8080/c/noarch/repodata_shards.msgpack");
-    for row in [
-        "./shards/ => http://h:8080/c/noarch/shards/",
-        "./ => http://h:8080/c/noarch/",
-    ] {
-        assert!(rt; is_joined(rt.alloc(), &index, row), "{row}");
-    }
-    Ok(())
-}
-
-#[test]
-fn shards_stand_below_their_base(rt: HostRuntime) -> Result<(), Fail> {
-    let shard = shard_below(rt.alloc(), &address(rt.alloc(), BASE)?)?;
+    assert!(rt; is_joined(alloc, &index, "./shards/ => http://h:8080/c/noarch/shards/"));
+    assert!(rt; is_joined(alloc, &index, "./ => http://h:8080/c/noarch/"));
+    let shard = shard_below(alloc, &base)?;
     assert!(rt; shard.as_str() == SHARD);
     Ok(())
 }

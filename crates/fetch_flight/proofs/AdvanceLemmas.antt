@@ -1,12 +1,12 @@
 -- What one call did, as an answer of `advance` says it.
-use Rattle.std.proofs.Common.{◌≡◌, ◌⊎◌, inl, inr, ℕ, ◌+◌, ◌^◌, ◌≤◌, ◌<◌, Bool, true, false, List, ◌++◌, length, length-append, drop, sym, ◌∙◌, subst, ap, arith}
+use Rattle.std.proofs.Common.{◌≡◌, ◌⊎◌, inl, inr, ℕ, ◌+◌, ◌^◌, ◌≤◌, ◌<◌, true, false, ◌++◌, length, length-append, drop, sym, ◌∙◌, subst, ap, arith}
 use Rattle.std.proofs.lemmas.List.{length-drop}
 use Rattle.link_io.specs.declared.conn.Sent.{Sent}
 use Rattle.link_io.specs.declared.conn.Sent.TheVariants as sending
 use Rattle.link_io.specs.declared.conn.Step.{Step}
 use Rattle.link_io.specs.declared.conn.Step.TheVariants as stepping
-use Rattle.link_io.specs.Conn.{LinkFacts, IsSameLink, Sends}
-use Rattle.link_io.specs.Parcel.{Packed, after_send, after_step, count_on, Stepped}
+use Rattle.link_io.specs.Conn.{LinkFacts}
+use Rattle.link_io.specs.Parcel.{Packed, count_on, Stepped}
 use Rattle.fetch_flight.specs.declared.flying.Progress.{Progress}
 use Rattle.fetch_flight.specs.declared.flying.Progress.TheVariants as progress
 use Rattle.http_reply.specs.Request.{request_bytes}

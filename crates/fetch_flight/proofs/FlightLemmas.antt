@@ -1,5 +1,5 @@
 -- Parcels that are decided, and those that are not.
-use Rattle.std.proofs.Common.{◌≡◌, ◌⊎◌, inl, inr, ℕ, Bool, true, false, List, length, drop, refl, sym, ◌∙◌, ap, subst, Option, Some, None}
+use Rattle.std.proofs.Common.{◌≡◌, ◌⊎◌, inl, inr, ℕ, Bool, true, false, List, length, drop, sym, ◌∙◌, ap, subst, Some}
 use Rattle.link_io.specs.declared.target.Key.{Key}
 use Rattle.link_io.specs.declared.target.Key.TheVariants as key
 use Rattle.link_io.specs.Origin.{Origin}
@@ -8,7 +8,7 @@ use Rattle.link_io.specs.Parcel.{Packed}
 use Rattle.http_head.specs.declared.reply.Reply.{Reply}
 use Rattle.http_head.specs.declared.reply.Frame.{Frame}
 use Rattle.http_head.specs.declared.reply.Reply.TheVariants as reply
-use Rattle.http_head.specs.Reply.{IsReply, is_settled, IsDecidedAs, IsUnsettled, framed_bytes}
+use Rattle.http_head.specs.Reply.{IsReply, is_settled, IsDecidedAs, framed_bytes}
 use Rattle.http_head.proofs.ReplyLemmas.{one-reply, ended-settled}
 use Rattle.fetch_flight.specs.declared.verdicts.Verdict.{Verdict}
 use Rattle.fetch_flight.specs.declared.verdicts.Verdict.TheVariants as verdict
@@ -16,7 +16,7 @@ use Rattle.fetch_flight.specs.declared.causes.Cause.{Cause}
 use Rattle.fetch_flight.specs.Cause.{IsCause, IsBadAt, IsBadIndex}
 use Rattle.fetch_flight.specs.Pins.{IsIndexKey}
 use Rattle.http_reply.specs.Going.{IsDecided, IsUndecided}
-use Rattle.fetch_flight.specs.Verdict.{IsVerdict, IsLandedFrom, key_of, size_of, number_of, comes_from}
+use Rattle.fetch_flight.specs.Verdict.{IsVerdict, IsLandedFrom}
 
 -- a decided parcel is decided as the reply that it is
 pub decided-as : {L : Type 0} (p : Packed L) (r : Reply) → IsDecided p → IsReply p.received p.ended r → IsDecidedAs p.received p.ended r

@@ -1,34 +1,31 @@
 -- A parcel comes to one verdict.
-use Rattle.std.proofs.Common.{◌≡◌, ◌⊎◌, inl, inr, ℕ, ◌+◌, ◌<◌, Bool, true, false, List, [], ◌++◌, length, drop, Option, None, Some, Ok, Err, Result, refl, sym, ◌∙◌, ap, subst, arith}
+use Rattle.std.proofs.Common.{◌≡◌, ◌⊎◌, inl, inr, ℕ, Bool, true, false, List, length, drop, Option, None, Some, Ok, Err, Result, refl, sym, ◌∙◌, ap, subst}
 use Rattle.digest_gate.specs.declared.digest.Digest.{Digest}
 use Rattle.digest_gate.specs.Digest.{digest_of}
 use Rattle.mp_codec.specs.declared.fault.FormatFault.{FormatFault}
 use Rattle.mp_codec.proofs.FirstLemmas.{one_first}
 use Rattle.shard_file.specs.Rows.{Row, ShardOf, ShardFault}
-use Rattle.shard_file.specs.Rows as shard
 use Rattle.shard_file.proofs.ShardLemmas.{one_shard}
 use Rattle.shard_index.specs.Index.{Contents, IndexOf, IndexFault}
 use Rattle.shard_index.proofs.IndexLemmas.{one_index}
 use Rattle.link_io.specs.declared.target.Key.{Key}
 use Rattle.link_io.specs.declared.target.Key.TheVariants as key
 use Rattle.link_io.specs.declared.address.UrlFault.{UrlFault}
-use Rattle.link_io.specs.declared.target.Target.{Target}
 use Rattle.link_io.specs.Parcel.{Packed}
 use Rattle.http_head.specs.declared.reply.Frame.{Frame}
 use Rattle.http_head.specs.declared.reply.Reply.{Reply}
 use Rattle.http_head.specs.declared.reply.Reply.TheVariants as reply
-use Rattle.http_head.specs.Reply.{IsReply, IsDecidedAs, HasBody, framed_bytes}
+use Rattle.http_head.specs.Reply.{HasBody, framed_bytes}
 use Rattle.http_head.proofs.ReplyLemmas.{one-reply}
 use Rattle.channel_url.specs.Addresses.{shards_base}
 use Rattle.fetch_flight.specs.declared.causes.Cause.{Cause}
 use Rattle.fetch_flight.specs.declared.causes.Cause.TheVariants as cause
-use Rattle.fetch_flight.specs.declared.causes.Malformed.{Malformed}
 use Rattle.fetch_flight.specs.declared.causes.Malformed.TheVariants as malformed
 use Rattle.fetch_flight.specs.declared.verdicts.Verdict.{Verdict}
 use Rattle.fetch_flight.specs.declared.verdicts.Verdict.TheVariants as verdict
-use Rattle.fetch_flight.specs.Made.{Pinned, Held, Wrecked}
-use Rattle.fetch_flight.specs.Cause.{cause_of_reply, IsBadShard, IsBadIndex, IsBadBody, IsBadAt, IsReplyCause, IsBodyCause, IsCause}
-use Rattle.fetch_flight.specs.Pins.{IsIndexKey, IsPin, IsHeld}
+use Rattle.fetch_flight.specs.Made.{Pinned, Held}
+use Rattle.fetch_flight.specs.Cause.{cause_of_reply, IsBadShard, IsBadIndex, IsBadAt, IsReplyCause, IsBodyCause, IsCause}
+use Rattle.fetch_flight.specs.Pins.{IsIndexKey, IsPin}
 use Rattle.fetch_flight.specs.Verdict.{IsHeldOf, IsVerdict}
 
 -- ---- one of each thing

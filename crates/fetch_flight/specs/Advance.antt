@@ -1,12 +1,11 @@
 -- One call on the connection of a flight.
-use Rattle.std.specs.Prelude.{⊤, ◌≡◌, ◌⊎◌, ℕ, ◌+◌, ◌≤◌, ◌<◌, List, [], ◌∷◌, ◌++◌, length, take, drop, Bool, true, false, Option, Some, None, if◌then◌else◌, nat_lt}
-use Rattle.gateway_words.specs.Causes.{Rose}
+use Rattle.std.specs.Prelude.{⊤, ◌≡◌, ◌⊎◌, ℕ, ◌+◌, ◌≤◌, ◌<◌, length, drop}
 use Rattle.link_io.specs.declared.conn.Sent.{Sent}
 use Rattle.link_io.specs.declared.conn.Sent.TheVariants as sending
 use Rattle.link_io.specs.declared.conn.Step.{Step}
 use Rattle.link_io.specs.declared.conn.Step.TheVariants as stepping
-use Rattle.link_io.specs.Conn.{LinkFacts, IsSameLink, Sends, Steps}
-use Rattle.link_io.specs.Parcel.{Packed, after_send, after_step, Stepped}
+use Rattle.link_io.specs.Conn.{LinkFacts, IsSameLink, Sends}
+use Rattle.link_io.specs.Parcel.{Packed, after_send, Stepped}
 use Rattle.fetch_flight.specs.declared.flying.Progress.{Progress}
 use Rattle.fetch_flight.specs.declared.flying.Progress.TheVariants as progress
 use Rattle.http_reply.specs.Request.{request_bytes}

@@ -1,5 +1,5 @@
 -- Why a flight has no value.
-use Rattle.std.specs.Prelude.{◌≡◌, ◌≢◌, ◌⊎◌, ℕ, List, Bool, true, false, Option, Some, None, Err}
+use Rattle.std.specs.Prelude.{◌≡◌, ◌≢◌, ◌⊎◌, ℕ, List, true, false, Option, Some, None, Err}
 use Rattle.digest_gate.specs.declared.digest.Digest.{Digest}
 use Rattle.digest_gate.specs.Digest.{digest_of}
 use Rattle.mp_codec.specs.Fault.{IsFirstFault}

@@ -1,8 +1,7 @@
 -- What is known of each value that a flight came to.
-use Rattle.std.specs.Prelude.{◌≡◌, ℕ}
 use Rattle.link_io.specs.Conn.{LinkFacts}
-use Rattle.link_io.specs.Parcel.{Packed, IsParcel}
-use Rattle.fetch_flight.specs.Made.{Pinned, Held, Wrecked}
+use Rattle.link_io.specs.Parcel.{IsParcel}
+use Rattle.fetch_flight.specs.Made.{Pinned, Wrecked}
 use Rattle.fetch_flight.specs.Pins.{IsPin}
 use Rattle.fetch_flight.specs.Cause.{IsCause}
 

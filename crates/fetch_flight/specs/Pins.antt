@@ -1,5 +1,5 @@
 -- What an index and a shard are, that a flight came to.
-use Rattle.std.specs.Prelude.{◌≡◌, ℕ, List, length, Bool, false, Ok}
+use Rattle.std.specs.Prelude.{◌≡◌, ℕ, List, length, false, Ok}
 use Rattle.digest_gate.specs.Digest.{digest_of}
 use Rattle.shard_index.specs.Index.{IndexOf}
 use Rattle.link_io.specs.declared.target.Key.{Key}

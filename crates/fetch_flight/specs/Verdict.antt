@@ -1,20 +1,14 @@
 -- What a flight came to: the relation between its parcel and its verdict.
-use Rattle.std.specs.Prelude.{◌≡◌, ◌≢◌, ◌⊎◌, ℕ, List, length, Bool, true, false, Option, Some, None, Ok, is_some, refl}
-use Rattle.digest_gate.specs.declared.digest.Digest.{Digest}
-use Rattle.digest_gate.specs.Digest.{digest_of}
+use Rattle.std.specs.Prelude.{◌≡◌, ℕ, true, false, Option, Some, None, is_some, refl}
 use Rattle.shard_file.specs.Rows.{ShardOf}
-use Rattle.shard_index.specs.Index.{IndexOf}
 use Rattle.link_io.specs.declared.target.Key.{Key}
-use Rattle.link_io.specs.declared.target.Key.TheVariants as key
-use Rattle.link_io.specs.declared.target.Target.{Target}
 use Rattle.link_io.specs.Origin.{Origin}
 use Rattle.link_io.specs.Conn.{LinkFacts}
-use Rattle.link_io.specs.Parcel.{Packed, IsParcel}
-use Rattle.http_head.specs.Reply.{IsDecidedAs, HasBody}
-use Rattle.channel_url.specs.Addresses.{shards_base}
+use Rattle.link_io.specs.Parcel.{Packed}
+use Rattle.http_head.specs.Reply.{HasBody}
 use Rattle.fetch_flight.specs.declared.verdicts.Verdict.{Verdict}
 use Rattle.fetch_flight.specs.declared.verdicts.Verdict.TheVariants as verdict
-use Rattle.fetch_flight.specs.Made.{Pinned, Held, Wrecked}
+use Rattle.fetch_flight.specs.Made.{Held}
 use Rattle.fetch_flight.specs.Pins.{IsPin, IsHeld}
 use Rattle.fetch_flight.specs.Cause.{IsCause}
 

@@ -1,5 +1,5 @@
 -- The pieces of a request, one behind the other.
-use Rattle.std.proofs.Common.{◌≡◌, ◌+◌, ◌-◌, ◌≤◌, ◌==◌, refl, sym, ℕ, Bool, true, false, cond, not, Option, Some, None, List, ◌++◌, codes, take, drop, length, length-append, take-append-drop, append_assoc, ◌∙◌, ap, arith, nat_lt}
+use Rattle.std.proofs.Common.{◌≡◌, ◌+◌, ◌-◌, ◌≤◌, ◌==◌, refl, sym, ℕ, Bool, true, false, cond, not, Some, None, List, ◌++◌, codes, take, drop, length, length-append, take-append-drop, append_assoc, ◌∙◌, ap, arith, nat_lt}
 use Rattle.std.specs.Prelude.{if◌then◌else◌}
 use Rattle.std.specs.List.{position_or_len}
 use Rattle.std.proofs.lemmas.List.{length-drop}

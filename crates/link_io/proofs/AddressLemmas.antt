@@ -1,7 +1,7 @@
 -- An address with more behind it.
-use Rattle.std.proofs.Common.{◌≡◌, ℕ, suc, ◌+◌, ◌≤◌, ◌<◌, Bool, true, false, cond, not, ◌&&◌, ◌==◌, List, [], ◌∷◌, ◌++◌, length, take, drop, Option, None, Some, refl, sym, ◌∙◌, ap, arith, length-append, take-append-drop, nat_lt, nat_le, Bor, unwrap_or}
+use Rattle.std.proofs.Common.{◌≡◌, ℕ, suc, ◌+◌, ◌≤◌, ◌<◌, Bool, true, false, cond, not, ◌&&◌, ◌==◌, List, [], ◌∷◌, ◌++◌, length, take, drop, Option, None, Some, refl, sym, ◌∙◌, ap, arith, length-append, take-append-drop, nat_lt, Bor, unwrap_or}
 use Rattle.std.specs.Prelude.{◌≢◌, MatchOption}
-use Rattle.std.specs.List.{list_all, list_any, prefix_len, position_or_len}
+use Rattle.std.specs.List.{list_all, prefix_len, position_or_len}
 use Rattle.std.specs.Str.{bytes_eq}
 use Rattle.std.specs.Str.Pattern.{StripsPrefix, FindsTextPrefix}
 use Rattle.std.proofs.lemmas.Bool.{ltb-true, lt-ltb}
@@ -10,7 +10,6 @@ use Rattle.std.proofs.lemmas.List.{take-append-le, drop-append-le, length-take}
 use Rattle.std.proofs.lemmas.List.Folds.{list_all-append}
 use Rattle.std.proofs.lemmas.Slice.Eq.{bytes_eq-Decides}
 use Rattle.gateway_words.specs.Ascii.{slash}
-use Rattle.link_io.specs.declared.address.UrlFault.{UrlFault}
 use Rattle.link_io.specs.declared.address.UrlFault.TheVariants as fault
 use Rattle.link_io.specs.Address.{most_of_address, scheme_text, behind_scheme, before_slash, is_address_byte, is_authority, is_place, has_scheme, address_fault}
 

@@ -1,9 +1,9 @@
 -- What is known of a parcel stays known where bytes came.
-use Rattle.std.proofs.Common.{◌≡◌, ℕ, ◌+◌, ◌≤◌, ◌<◌, true, List, ◌++◌, length, length-append, take, Option, None, Some, IfSome, sym, ◌∙◌, ap, subst, arith}
+use Rattle.std.proofs.Common.{◌≡◌, ℕ, ◌≤◌, List, ◌++◌, length, length-append, take, Option, None, Some, IfSome, sym, ◌∙◌, ap, subst, arith}
 use Rattle.std.specs.Io.KnownBytes.{append_known}
 use Rattle.std.proofs.lemmas.List.{take_all}
 use Rattle.link_io.specs.declared.conn.Step.TheVariants as stepping
-use Rattle.link_io.specs.Conn.{LinkFacts, IsAllGiven, IsFront}
+use Rattle.link_io.specs.Conn.{LinkFacts, IsFront}
 use Rattle.link_io.specs.Parcel.{Packed, IsParcel, StepsBehind}
 
 -- a piece behind the bytes that are told

@@ -1,5 +1,5 @@
 -- Addresses: `http://`, an authority and a path (RFC 9112, section 3.2; docs/FORMATS.md, "Addresses").
-use Rattle.std.specs.Prelude.{ℕ, List, ◌++◌, length, take, drop, Bool, not, ◌&&◌, ◌==◌, nat_lt, nat_le, codes, Option, Some, None, Result, Ok, Err, if◌then◌else◌}
+use Rattle.std.specs.Prelude.{ℕ, List, length, take, drop, Bool, not, ◌&&◌, ◌==◌, nat_lt, nat_le, codes, Option, Some, None, Result, Ok, Err, if◌then◌else◌}
 use Rattle.std.specs.List.{list_all, list_any, before_first}
 use Rattle.std.specs.Str.{bytes_eq}
 use Rattle.gateway_words.specs.Ascii.{slash, question_mark, number_sign, commercial_at}

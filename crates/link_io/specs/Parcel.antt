@@ -1,11 +1,11 @@
 -- What a parcel is to a contract: one exchange over a connection.
-use Rattle.std.specs.Prelude.{◌≡◌, ℕ, ◌+◌, ◌-◌, ◌^◌, ◌≤◌, ◌<◌, min, List, [], ◌∷◌, ◌++◌, length, take, Bool, true, false, Option, Some, None, IfSome}
+use Rattle.std.specs.Prelude.{◌≡◌, ℕ, ◌+◌, ◌-◌, ◌^◌, ◌≤◌, ◌<◌, min, List, [], ◌++◌, length, Bool, true, false, IfSome}
 use Rattle.link_io.specs.declared.target.Target.{Target}
 use Rattle.link_io.specs.declared.conn.Sent.{Sent}
 use Rattle.link_io.specs.declared.conn.Sent.TheVariants as sending
 use Rattle.link_io.specs.declared.conn.Step.{Step}
 use Rattle.link_io.specs.declared.conn.Step.TheVariants as stepping
-use Rattle.link_io.specs.Conn.{LinkFacts, IsSameLink, IsAllGiven, Sends, Steps}
+use Rattle.link_io.specs.Conn.{LinkFacts, IsSameLink, IsAllGiven, Steps}
 
 -- a parcel over a link
 pub record Packed (L : Type 0) : Type 0 where

@@ -1,5 +1,5 @@
 -- A world in memory: its connections, and the script by which they fail and wait.
-use Rattle.std.specs.Prelude.{◌≡◌, ◌≢◌, ℕ, ◌+◌, ◌-◌, ◌^◌, ◌==◌, ◌≤◌, min, List, [], ◌∷◌, ◌++◌, map, length, codes, Option, Some, None, IfSome, IsSomeAnd, unwrap_or, if◌then◌else◌, refl}
+use Rattle.std.specs.Prelude.{◌≡◌, ℕ, ◌+◌, ◌-◌, ◌^◌, ◌==◌, min, List, [], ◌∷◌, ◌++◌, length, codes, Option, Some, None, IsSomeAnd, unwrap_or, if◌then◌else◌, refl}
 use Rattle.link_io.specs.declared.target.Target.{Target}
 use Rattle.link_io.specs.declared.conn.Sent.{Sent}
 use Rattle.link_io.specs.declared.conn.Step.{Step}

@@ -1,5 +1,5 @@
 -- A connection of the network, which tells nothing of what goes over it.
-use Rattle.std.specs.Prelude.{◌≡◌, ◌≢◌, ℕ, List, [], Option, Some, None}
+use Rattle.std.specs.Prelude.{◌≡◌, List, Some, None}
 use Rattle.link_io.specs.declared.target.Target.{Target}
 use Rattle.link_io.specs.declared.tcp.TcpConn.{TcpConn}
 use Rattle.link_io.specs.declared.tcp.TcpDial.{TcpDial}

@@ -77,8 +77,8 @@ fn step_behind<L: Conn>(link: &mut L, bytes: &mut Vec<u8>, room: usize) -> Resul
     ensures ok { IfOk result
         (StepsBehind room (L.facts link.old) (L.facts link.new) bytes.old.items bytes.new.items) }
     ensures from { (o : Origin) → L.from link.old o → L.from link.new o }
-    ensures front { IfOk result
-        (λ _. take (length bytes.old.items) bytes.new.items ≡ bytes.old.items) }
+    ensures front { IfOk result (λ _.
+        take (length bytes.old.items) bytes.new.items ≡ bytes.old.items) }
     ensures err { OnErr result ((link.new ≡ link.old) × (bytes.new.items ≡ bytes.old.items)) }
 {
     let before = bytes.len();
@@ -90,8 +90,8 @@ fn step_behind<L: Conn>(link: &mut L, bytes: &mut Vec<u8>, room: usize) -> Resul
 
 // Puts so many bytes behind others; what stands in them doesn't matter.
 fn add_room(bytes: &mut Vec<u8>, room: usize) -> Result<(), AllocError>
-    ensures front { IfOk result
-        (λ _. take (length bytes.old.items) bytes.new.items ≡ bytes.old.items) }
+    ensures front { IfOk result (λ _.
+        take (length bytes.old.items) bytes.new.items ≡ bytes.old.items) }
     ensures room { IfOk result (λ _. length bytes.new.items ≡ length bytes.old.items + room) }
     ensures err { OnErr result (bytes.new.items ≡ bytes.old.items) }
 {

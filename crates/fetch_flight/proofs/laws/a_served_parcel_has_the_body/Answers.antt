@@ -1,4 +1,4 @@
-use Rattle.std.proofs.Common.{◌≡◌, ap, ◌∙◌, subst, Some, Option, List, ℕ}
+use Rattle.std.proofs.Common.{ap, ◌∙◌}
 use Rattle.link_io.specs.Origin.{reply_at}
 use Rattle.fetch_flight.proofs.TellLemmas.{told-body}
 use Rattle.fetch_flight.proofs.laws.a_served_parcel_has_the_body.Goals as goal

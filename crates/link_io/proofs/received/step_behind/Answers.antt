@@ -1,4 +1,4 @@
-use Rattle.std.proofs.Common.{◌≡◌, ◌+◌, List, ℕ, length, take, drop, rules, subst, ap, ◌∙◌, arith, vec_len}
+use Rattle.std.proofs.Common.{◌≡◌, ◌+◌, ℕ, length, take, drop, rules, subst, ap, ◌∙◌, arith, vec_len}
 use Rattle.std.proofs.lemmas.List.{take_at}
 use Rattle.link_io.specs.Conn.{Steps}
 use Rattle.link_io.specs.Parcel.{count_in}

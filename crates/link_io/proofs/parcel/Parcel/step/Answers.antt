@@ -1,4 +1,4 @@
-use Rattle.std.proofs.Common.{◌≡◌, subst}
+use Rattle.std.proofs.Common.{subst}
 use Rattle.link_io.specs.declared.conn.Step.{Step}
 use Rattle.link_io.specs.Parcel.{StepsBehind}
 use Rattle.link_io.proofs.ParcelLemmas.{got-is-parcel}

@@ -1,4 +1,4 @@
-use Rattle.std.proofs.Common.{◌≡◌, List, ℕ, length, rules, subst, sym}
+use Rattle.std.proofs.Common.{◌≡◌, List, ℕ, length, rules, subst}
 use Rattle.http_head.specs.Reply.{IsReply}
 use Rattle.link_io.proofs.received.Received.reply.Goals as goal
 

@@ -1,4 +1,4 @@
-use Rattle.std.proofs.Common.{◌≡◌, ◌+◌, ◌-◌, ◌++◌, take, drop, length, ap, refl, ◌∙◌, sym, arith, ℕ, List, Some, length-append}
+use Rattle.std.proofs.Common.{◌≡◌, ◌+◌, ◌-◌, ◌++◌, take, drop, length, ap, refl, ◌∙◌, arith, ℕ, List, Some, length-append}
 use Rattle.std.proofs.lemmas.List.{length-take-le, length-drop}
 use Rattle.link_io.proofs.GivingLemmas.{gives-copied}
 use Rattle.link_io.proofs.script.ScriptConn.give.Goals as goal

@@ -1,4 +1,4 @@
-use Rattle.std.proofs.Common.{refl, ◌∙◌, ap, sym, ◌≡◌, List, ℕ, map}
+use Rattle.std.proofs.Common.{refl, ◌∙◌, ap, sym, List, ℕ, map}
 use Rattle.link_io.specs.Script.{reply_for}
 use Rattle.link_io.proofs.script.ScriptDialDial.dial.Goals as goal
 
