@@ -1,5 +1,5 @@
 -- What a server answers by its files (docs/FORMATS.md, "Served paths"; RFC 9110, sections 9.3.1, 9.3.2 and 15).
-use Rattle.std.specs.Prelude.{◌≡◌, ◌≢◌, ◌×◌, ℕ, ◌||◌, Bool, true, false, List, [], length, Option, Some, None, IfSome, if◌then◌else◌, codes}
+use Rattle.std.specs.Prelude.{◌≡◌, ◌≢◌, ℕ, ◌||◌, Bool, true, false, List, [], length, Option, Some, None, IfSome, if◌then◌else◌, codes}
 use Rattle.std.specs.Str.{bytes_eq}
 use Rattle.gateway_words.specs.Causes.{Rose}
 use Rattle.gateway_words.specs.Limits.{most_served_bytes}
