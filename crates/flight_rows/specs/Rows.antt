@@ -5,7 +5,7 @@ use Rattle.flight_rows.specs.Sight.{ArePlain}
 use Rattle.std.specs.BTreeMap.{BTreeMap, get}
 use Rattle.link_io.specs.Conn.{LinkFacts}
 use Rattle.link_io.specs.Parcel.{Packed}
-use Rattle.http_reply.specs.Reply.{IsUnsettled}
+use Rattle.http_head.specs.Reply.{IsUnsettled}
 use Rattle.link_io.specs.Origin.{Origin}
 use Rattle.shard_cache.specs.Recency.{is_listed}
 use Rattle.link_io.specs.declared.target.Key.{Key}

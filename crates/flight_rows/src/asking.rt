@@ -16,7 +16,7 @@ ghost use Rattle.flight_rows.specs.Changes.{IsFirstRow};
 use crate::row::{At, Row, add_both, copy_value, drop_both, push_query, put_at};
 use crate::table::Flights;
 use flight_journal::Entry;
-use http_reply::nothing_is_decided_before_the_first_byte;
+use http_head::nothing_is_decided_before_the_first_byte;
 use link_io::{Conn, Dial, Key, Landed, Parcel, Target, keys_are_told_apart};
 use std::alloc::{AllocError, Global};
 use std::sync::Arc;
