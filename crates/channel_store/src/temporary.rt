@@ -84,7 +84,7 @@ fn path_of(alloc: Global, folder: &str, number: u32) -> Result<String, AllocErro
 }
 
 // A new file at this path whose lock is ours, or none where the path is taken. It never opens what
-// stands there. Where the lock can't be taken the new file is removed again.
+// stands there. Where the lock can't be taken the new file is removed again, if it is still at the path.
 fn create<R: Files<File = File>>(rt: &R, path: &str) -> io::Result<Option<File>> {
     let file = match File::options().write(true).create_new(true).open(rt, path) {
         Ok(file) => file,
@@ -94,7 +94,9 @@ fn create<R: Files<File = File>>(rt: &R, path: &str) -> io::Result<Option<File>>
     match is_ours(rt, path, &file) {
         Ok(ours) => Ok(ours.then_some(file)),
         Err(error) => {
-            let _ = fs::remove_file(rt, path);
+            if let Ok(true) = is_at(rt, path, &file) {
+                let _ = fs::remove_file(rt, path);
+            }
             Err(error)
         }
     }

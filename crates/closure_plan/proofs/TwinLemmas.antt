@@ -5,7 +5,7 @@ use Rattle.std.specs.List.{list_any, position_or_len, slice_get}
 use Rattle.std.specs.Option.{option_and_then}
 use Rattle.std.specs.Str.{bytes_eq, str_eq_ignore_ascii_case}
 use Rattle.std.proofs.lemmas.Map.Text.{is_eq-slice_cmp}
-use Rattle.shard_index.proofs.NameLemmas.{bytes_eq-sym}
+use Rattle.mp_codec.proofs.NameSetLemmas.{bytes_eq-sym}
 use Rattle.conda_name.specs.Name.{lower_case}
 use Rattle.shard_file.specs.Rows.{Row}
 use Rattle.shard_file.specs.Twin.{before_ending, is_newer, newer_at, newer_ending, older_ending, twin_at, twin_of}

@@ -2,8 +2,8 @@
 use Rattle.std.specs.Prelude.{ℕ, ◌==◌, ◌&&◌, List, [], ◌∷◌, Option, Some, None, if◌then◌else◌}
 use Rattle.std.specs.List.{take_while}
 use Rattle.std.specs.Option.{unwrap_or}
-use Rattle.std.specs.Borrow.{Bor}
-use Rattle.gateway_words.specs.Ascii.{colon, space}
+use Rattle.gateway_words.specs.Ascii.{colon}
+use Rattle.byte_text.specs.Text.{skip_blanks}
 use Rattle.conda_name.specs.Name.{is_name_byte}
 
 -- what stands behind a `::` at the front, if one is there
@@ -26,11 +26,6 @@ behind_last (b ∷ rest) = or_else (behind_last rest) (behind_front (b ∷ rest)
 abbrev pub behind_channel : List ℕ → List ℕ
 behind_channel text = unwrap_or (behind_last text) text
 
--- the text without the blanks at its front
-abbrev pub skip_blanks : List ℕ → List ℕ
-skip_blanks [] = []
-skip_blanks (b ∷ rest) = if b == space then skip_blanks rest else b ∷ rest
-
 -- the longest run of bytes of a name with which a text begins
 abbrev pub name_run : List ℕ → List ℕ
 name_run text = take_while is_name_byte text
@@ -43,8 +38,3 @@ unless_empty (b ∷ rest) = Some (b ∷ rest)
 -- the name that a text is about: the run behind the last `::` and blanks, if it isn't empty
 abbrev pub dependency_name : List ℕ → Option (List ℕ)
 dependency_name text = unless_empty (name_run (skip_blanks (behind_channel text)))
-
--- the bytes behind a reference that may be missing
-abbrev pub text_of : Option (Bor (List ℕ)) → Option (List ℕ)
-text_of None = None
-text_of (Some text) = Some text.now

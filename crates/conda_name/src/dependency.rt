@@ -3,10 +3,12 @@
 ghost use Rattle.std.specs.Prelude.{◌≡◌, ◌≤◌, IfSome, Ok, Some, length};
 ghost use Rattle.std.specs.List.{prefix_len};
 ghost use Rattle.std.specs.Str.{IsAscii};
-ghost use Rattle.conda_name.specs.Dependency.{behind_channel, dependency_name, skip_blanks, text_of};
+ghost use Rattle.conda_name.specs.Dependency.{behind_channel, dependency_name};
+ghost use Rattle.byte_text.specs.Text.{skip_blanks, text_of};
 ghost use Rattle.conda_name.specs.Name.{is_name_byte, lower_case, name_of};
 
 use crate::name::is_name_byte;
+use byte_text::skip_blanks;
 use std::str;
 
 /// The name that a `depends` text is about: the longest run of letters, digits, `_`, `-` and `.`
@@ -48,16 +50,6 @@ fn behind_channel(text: &[u8]) -> &[u8]
         rest = tail;
     }
     found
-}
-
-// The text without the blanks at its front.
-fn skip_blanks(mut text: &[u8]) -> &[u8]
-    ensures { result.now ≡ skip_blanks text.now }
-{
-    while let [b' ', rest @ ..] = text {
-        text = rest;
-    }
-    text
 }
 
 // How many bytes of a name a text begins with.

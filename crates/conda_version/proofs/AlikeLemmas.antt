@@ -12,7 +12,7 @@ use Rattle.conda_version.specs.Leaf.{Test, always, compare, compatible, leaf_of,
 use Rattle.conda_version.specs.Order.{begins_by, lists_begin, run_begins, run_cmp, runs_begin, runs_cmp, version_cmp, version_starts_with}
 use Rattle.conda_version.specs.Relation.{Relation}
 use Rattle.conda_version.specs.Relation as relation
-use Rattle.conda_version.specs.Text.{is_nil}
+use Rattle.byte_text.specs.Text.{is_nil}
 use Rattle.conda_version.specs.Token.{Token, and, leaf, left, or, right}
 use Rattle.conda_version.specs.Version.{Run, Value, number}
 use Rattle.conda_version.specs.declared.fault.ConstraintFault.{ConstraintFault}

@@ -11,7 +11,7 @@ use Rattle.conda_version.specs.Blanks.{moved}
 use Rattle.conda_version.specs.Constraint.{comes_before, constraint_fault, earlier, ends_item, faults, faults_from, faults_here, first_of, if_so, leaf_faults, most_levels, constraint_fault_number, open_after, place_of, shifted}
 use Rattle.conda_version.specs.Grammar.{Parts, first_wrong, has_empty_part, if_there, is_no_number, is_twice, is_wide, parts, version_of, version_of_parts, version_of_trimmed, version_unless}
 use Rattle.conda_version.specs.Leaf.{Test, leaf_of}
-use Rattle.conda_version.specs.Text.{drop_blanks, is_nil, skip_blanks}
+use Rattle.byte_text.specs.Text.{drop_blanks, is_nil, skip_blanks}
 use Rattle.conda_version.specs.Token.{Open, Placed, Token, and, closed, leaf, left, longer, or, right, tokens, tokens_from}
 use Rattle.conda_version.specs.declared.fault.ConstraintFault.{ConstraintFault}
 use Rattle.conda_version.specs.declared.fault.ConstraintFault.TheVariants as fault

@@ -8,8 +8,9 @@ use Rattle.std.specs.Char.{is_ascii_digit}
 use Rattle.std.specs.List.{list_any}
 use Rattle.gateway_words.specs.Ascii.{dot}
 use Rattle.conda_version.specs.OrderLaws.{cut_everywhere, is_separator, put_back}
-use Rattle.conda_version.specs.Text.{is_nil}
-use Rattle.conda_version.specs.Version.{components, cuts, in_front, is_underscore, number, runs_from, with_digit}
+use Rattle.byte_text.specs.Text.{is_nil}
+use Rattle.conda_version.specs.Version.{components, cuts, in_front, is_underscore, number, runs_from}
+use Rattle.byte_text.specs.Decimal.{with_digit}
 use Rattle.conda_version.specs.Grammar.{ends_in_underscore, has_empty, narrow_from}
 use Rattle.conda_version.specs.Cursor.{number_from}
 use Rattle.conda_version.proofs.StepLemmas.{components-split, first_component, later_components}

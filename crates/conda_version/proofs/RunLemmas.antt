@@ -5,8 +5,9 @@ use Rattle.std.proofs.lemmas.Bool.{cases_Bool, false≢true}
 use Rattle.std.proofs.lemmas.List.{append-nil, append_assoc}
 use Rattle.std.specs.Char.{is_ascii_digit}
 use Rattle.std.specs.List.{concat}
-use Rattle.conda_version.specs.Runs.{IsCutInto, TakeTurns, are_digits, are_others, decimal_from, runs_of}
-use Rattle.conda_version.specs.Version.{folded, number, runs, runs_from, with_digit, word}
+use Rattle.conda_version.specs.Runs.{IsCutInto, TakeTurns, are_others, runs_of}
+use Rattle.byte_text.specs.Decimal.{are_digits, decimal_from, with_digit}
+use Rattle.conda_version.specs.Version.{folded, number, runs, runs_from, word}
 
 -- both of two
 both : (a b : Bool) → (a && b) ≡ true → (a ≡ true) × (b ≡ true)

@@ -10,7 +10,7 @@ use Rattle.std.specs.Char.{is_ascii_digit}
 use Rattle.std.specs.Ordering.{is_eq, nat_cmp, ordering_index, ordering_then}
 use Rattle.std.specs.declared.cmp.Ordering.{Ordering}
 use Rattle.std.specs.declared.cmp.Ordering.TheVariants.{Less, Equal, Greater}
-use Rattle.conda_version.specs.Text.{is_nil}
+use Rattle.byte_text.specs.Text.{is_nil}
 use Rattle.conda_version.specs.Version.{Run, components, continues, cuts, folded, lists, number, open_run, runs, runs_from, unless, word}
 use Rattle.conda_version.specs.Order.{first_or, letters, lists_begin, others, run_begins, run_cmp, runs_cmp}
 use Rattle.conda_version.specs.Cursor.{after_digits, after_step, after_word, at_end, behind, number_from, word_at, word_len, word_run}

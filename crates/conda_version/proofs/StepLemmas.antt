@@ -10,8 +10,9 @@ use Rattle.std.specs.Char.{is_ascii_digit}
 use Rattle.std.specs.Ordering.{nat_cmp, ordering_index, ordering_then}
 use Rattle.std.specs.declared.cmp.Ordering.{Ordering}
 use Rattle.std.specs.declared.cmp.Ordering.TheVariants.{Less, Equal, Greater}
-use Rattle.conda_version.specs.Text.{is_nil}
-use Rattle.conda_version.specs.Version.{Run, components, cuts, folded, lists, number, runs, runs_from, with_digit, word}
+use Rattle.byte_text.specs.Text.{is_nil}
+use Rattle.conda_version.specs.Version.{Run, components, cuts, folded, lists, number, runs, runs_from, word}
+use Rattle.byte_text.specs.Decimal.{with_digit}
 use Rattle.conda_version.specs.Grammar.{is_narrow}
 use Rattle.conda_version.specs.Order.{first_or, lists_cmp, others, padded_cmp, run_cmp, runs_cmp}
 use Rattle.conda_version.specs.Cursor.{after_digits, after_step, after_word, at_end, behind, number_from, word_at, word_len, word_run}

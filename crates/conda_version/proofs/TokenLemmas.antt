@@ -5,7 +5,7 @@ use Rattle.std.proofs.lemmas.Bool.{cases_Bool}
 use Rattle.std.proofs.lemmas.Bool.Decides.{nat_tests}
 use Rattle.std.proofs.lemmas.List.{append-nil}
 use Rattle.gateway_words.specs.Ascii.{space}
-use Rattle.conda_version.specs.Text.{begins_at, skip_blanks}
+use Rattle.byte_text.specs.Text.{begins_at, skip_blanks}
 use Rattle.conda_version.specs.Cursor.{leaf_len}
 use Rattle.conda_version.specs.Token.{Token, ended_by, leaf, sign_of, tokens_from}
 use Rattle.conda_version.proofs.FaultLemmas.{front-and-tail, tail_of}

@@ -8,7 +8,7 @@ use Rattle.std.specs.Prelude.{◌&&◌, ◌||◌, ◌≢◌, None}
 use mathlib.Core.Bool.{true≢false}
 use Rattle.std.proofs.Common.{inl, inr}
 use Rattle.std.proofs.lemmas.Bool.{cases_Bool}
-use Rattle.conda_version.specs.Text.{is_nil}
+use Rattle.byte_text.specs.Text.{is_nil}
 use Rattle.conda_version.specs.Version.{Run, lists, number, runs}
 use Rattle.conda_version.specs.Grammar.{first_wrong, is_no_number, parts, version_of_parts, version_of_trimmed}
 use Rattle.conda_version.specs.Order.{lists_begin, lists_cmp, runs_cmp, version_cmp, version_starts_with}

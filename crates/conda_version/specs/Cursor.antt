@@ -3,7 +3,8 @@ use Rattle.std.specs.Prelude.{ℕ, suc, take, drop, ◌||◌, Bool, true, List, 
 use Rattle.std.specs.Option.{is_some}
 use Rattle.std.specs.Char.{is_ascii_digit}
 use Rattle.conda_version.specs.Token.{sign_of}
-use Rattle.conda_version.specs.Version.{Run, number, word, cuts, folded, with_digit}
+use Rattle.conda_version.specs.Version.{Run, number, word, cuts, folded}
+use Rattle.byte_text.specs.Decimal.{with_digit}
 
 -- the number at the front, from an open one on; 0 where no digit comes first
 abbrev pub number_from : ℕ → List ℕ → ℕ

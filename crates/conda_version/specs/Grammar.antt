@@ -3,8 +3,9 @@ use Rattle.std.specs.Prelude.{ℕ, ◌+◌, ◌-◌, ◌^◌, ◌==◌, ◌&&◌
 use Rattle.std.specs.Char.{is_ascii_digit, is_ascii_alphanumeric}
 use Rattle.std.specs.List.{list_any}
 use Rattle.gateway_words.specs.Ascii.{dash, dot, exclamation_mark, plus_sign, underscore}
-use Rattle.conda_version.specs.Text.{cut_at, drop_blanks, is_nil, skip_blanks}
-use Rattle.conda_version.specs.Version.{Run, number, Value, components, is_underscore, lists, runs, with_digit}
+use Rattle.byte_text.specs.Text.{cut_at, drop_blanks, is_nil, skip_blanks}
+use Rattle.conda_version.specs.Version.{Run, number, Value, components, is_underscore, lists, runs}
+use Rattle.byte_text.specs.Decimal.{with_digit}
 use Rattle.conda_version.specs.declared.fault.VersionFault.{VersionFault}
 use Rattle.conda_version.specs.declared.fault.VersionFault.TheVariants as fault
 

@@ -1,9 +1,9 @@
 -- A leaf of a constraint: an operator, a version and a star (docs/FORMATS.md, "Constraints").
-use Rattle.std.specs.Prelude.{ℕ, suc, ◌+◌, ◌-◌, ◌==◌, ◌&&◌, ◌||◌, not, Bool, true, false, List, [], ◌∷◌, length, reverse, take, drop, position, codes, nat_eq, Option, Some, None, Result, Ok, Err, if◌then◌else◌}
+use Rattle.std.specs.Prelude.{ℕ, ◌+◌, ◌-◌, ◌==◌, ◌&&◌, not, Bool, true, false, List, [], ◌∷◌, length, reverse, take, drop, position, codes, nat_eq, Option, Some, None, Result, Ok, Err, if◌then◌else◌}
 use Rattle.std.specs.Cmp.Lexicographic.{pointwise}
 use Rattle.std.specs.Ordering.{is_eq, is_gt, is_lt}
-use Rattle.gateway_words.specs.Ascii.{asterisk, dot, equals_sign, exclamation_mark, greater_than_sign, less_than_sign, tilde}
-use Rattle.conda_version.specs.Text.{begins_at, drop_blanks, is_nil, skip_blanks}
+use Rattle.gateway_words.specs.Ascii.{asterisk, dot}
+use Rattle.byte_text.specs.Text.{before_last, begins_at, drop_blanks, is_nil, sign_len, skip_blanks}
 use Rattle.conda_version.specs.Version.{Value}
 use Rattle.conda_version.specs.Grammar.{version_of}
 use Rattle.conda_version.specs.Order.{version_cmp, version_starts_with}
@@ -56,16 +56,6 @@ relation_of operator.at_least star = relation.at_least
 relation_of operator.compatible star = relation.at_least
 
 -- ---- the operator
-
--- a byte of which operators are made
-abbrev pub is_sign : ℕ → Bool
-is_sign b =
-    b == less_than_sign || b == equals_sign || b == greater_than_sign || b == exclamation_mark || b == tilde
-
--- how many signs a text begins with
-abbrev pub sign_len : List ℕ → ℕ
-sign_len [] = 0
-sign_len (b ∷ rest) = if is_sign b then suc (sign_len rest) else 0
 
 -- the run of signs with which a text begins
 abbrev pub signs : List ℕ → List ℕ
@@ -139,20 +129,6 @@ ends_in_star body = begins_at asterisk (reverse body)
 -- the text of the version: without a `*` or `.*` at its end, and without blanks before that
 abbrev pub version_text : List ℕ → List ℕ
 version_text body = if ends_in_star body then drop_blanks (strip_end dot (strip_end asterisk body)) else body
-
--- what stands behind the first such byte
-abbrev pub behind_first : ℕ → List ℕ → Option (List ℕ)
-behind_first mark [] = None
-behind_first mark (b ∷ rest) = if b == mark then Some rest else behind_first mark rest
-
--- a text turned round, where there is one
-abbrev pub turned_round : Option (List ℕ) → Option (List ℕ)
-turned_round None = None
-turned_round (Some text) = Some (reverse text)
-
--- what stands before the last such byte
-abbrev pub before_last : ℕ → List ℕ → Option (List ℕ)
-before_last mark text = turned_round (behind_first mark (reverse text))
 
 -- ---- the leaf; places are counted from its first byte
 

@@ -1,4 +1,3 @@
-pub mod Text
 pub mod Version
 pub mod Grammar
 pub mod Runs
@@ -17,6 +16,7 @@ pub mod Meaning
 pub mod Seen
 pub mod Scan
 pub mod Levels
+pub use Rattle.byte_text.specs.Text
 pub use Rattle.gateway_words.specs.Ascii
 pub use Rattle.gateway_words.specs.Reading
 pub use Rattle.gateway_words.specs.Places

@@ -1,6 +1,6 @@
 -- What a `Version`, and a text that is cut into parts, stand for.
 use Rattle.std.specs.Prelude.{ℕ, List, [], ◌∷◌, Result, Ok, Err}
-use Rattle.conda_version.specs.Text.{text_of}
+use Rattle.byte_text.specs.Text.{text_of}
 use Rattle.conda_version.specs.Version.{Run, number, Value, lists}
 use Rattle.conda_version.specs.Grammar.{Parts}
 use Rattle.conda_version.specs.declared.fault.VersionFault.{VersionFault}

@@ -4,7 +4,7 @@ use Rattle.std.specs.Ordering.{is_eq, nat_cmp, on, ordering_then, then_cmp}
 use Rattle.std.specs.declared.cmp.Ordering.{Ordering}
 use Rattle.std.specs.declared.cmp.Ordering.TheVariants.{Equal}
 use Rattle.std.specs.Cmp.Lexicographic.{pointwise, slice_cmp}
-use Rattle.conda_version.specs.Text.{is_nil}
+use Rattle.byte_text.specs.Text.{is_nil}
 use Rattle.conda_version.specs.Version.{Run, number, word, Value}
 
 -- ---- the order of two runs

@@ -2,12 +2,9 @@
 use Rattle.std.specs.Prelude.{◌≡◌, ℕ, ◌++◌, not, Bool, true, false, List, [], ◌∷◌, map}
 use Rattle.std.specs.Char.{is_ascii_digit}
 use Rattle.std.specs.List.{concat, list_all}
-use Rattle.conda_version.specs.Text.{is_nil}
-use Rattle.conda_version.specs.Version.{Run, folded, number, with_digit, word}
-
--- whether some bytes are all digits
-abbrev pub are_digits : List ℕ → Bool
-are_digits bytes = list_all is_ascii_digit bytes
+use Rattle.byte_text.specs.Decimal.{are_digits, decimal_from}
+use Rattle.byte_text.specs.Text.{is_nil}
+use Rattle.conda_version.specs.Version.{Run, folded, number, word}
 
 -- whether none of some bytes is a digit
 abbrev pub are_others : List ℕ → Bool
@@ -25,11 +22,6 @@ pub record IsCutInto (component digits : List ℕ) (later : List (List ℕ)) : T
   pub whole : digits ++ concat later ≡ component
   pub front : are_digits digits ≡ true
   pub turns : TakeTurns false later
-
--- the number that some digits are, behind others that are n
-abbrev pub decimal_from : ℕ → List ℕ → ℕ
-decimal_from n [] = n
-decimal_from n (b ∷ rest) = decimal_from (with_digit n b) rest
 
 -- the run that a piece is: of digits a number, of other bytes a word in lower case
 abbrev pub run_of : Bool → List ℕ → Run

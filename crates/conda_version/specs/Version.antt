@@ -1,8 +1,9 @@
 -- A version as lists of components, each a list of runs (docs/FORMATS.md, "Versions").
-use Rattle.std.specs.Prelude.{ℕ, ◌+◌, ◌-◌, ◌*◌, ◌==◌, ◌&&◌, ◌||◌, not, Bool, true, false, List, [], ◌∷◌, ◌++◌, map, if◌then◌else◌}
+use Rattle.std.specs.Prelude.{ℕ, ◌==◌, ◌&&◌, ◌||◌, not, Bool, true, false, List, [], ◌∷◌, ◌++◌, map, if◌then◌else◌}
 use Rattle.std.specs.Char.{is_ascii_digit, to_ascii_lowercase}
 use Rattle.gateway_words.specs.Ascii.{dash, dot, underscore}
-use Rattle.conda_version.specs.Text.{is_nil}
+use Rattle.byte_text.specs.Decimal.{with_digit}
+use Rattle.byte_text.specs.Text.{is_nil}
 
 -- a run of a component: a number, or a word in lower case
 pub data Run : Type 0 where
@@ -14,17 +15,9 @@ pub record Value : Type 0 where
   pub release : List (List Run)
   pub local : List (List Run)
 
--- the byte `0`, at which the digits begin
-abbrev pub digit_zero : ℕ
-digit_zero = 0x30
-
 -- a byte of a word: a letter in lower case, and `-` as `_`
 abbrev pub folded : ℕ → ℕ
 folded b = if b == dash then underscore else to_ascii_lowercase b
-
--- a number with one digit more
-abbrev pub with_digit : ℕ → ℕ → ℕ
-with_digit n b = n * 10 + (b - digit_zero)
 
 -- the run that is open behind a byte: a digit goes on with a number, another byte with a word
 abbrev pub open_run : Run → ℕ → Run

@@ -3,7 +3,7 @@
 ghost use Rattle.std.specs.Prelude.{◌≡◌, ◌&&◌, ◌≤◌, length, not, true};
 ghost use Rattle.conda_version.specs.Cursor.{after_digits, after_step, at_end, behind, number_from, word_at, word_len};
 ghost use Rattle.conda_version.specs.Grammar.{is_narrow};
-ghost use Rattle.conda_version.specs.Text.{is_nil};
+ghost use Rattle.byte_text.specs.Text.{is_nil};
 ghost use Rattle.conda_version.specs.Version.{cuts, folded, is_underscore};
 
 // The number at the front of a text and what stands behind its digits.

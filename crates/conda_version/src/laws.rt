@@ -11,7 +11,8 @@ ghost use Rattle.conda_version.specs.Constraint.{constraint_fault, shifted};
 ghost use Rattle.conda_version.specs.Order.{version_cmp, version_starts_with};
 ghost use Rattle.conda_version.specs.OrderLaws.{HaveSameRuns, TiesStartAlike, cut_everywhere, put_back};
 ghost use Rattle.conda_version.specs.Grammar.{ends_in_underscore, version_of};
-ghost use Rattle.conda_version.specs.Runs.{IsCutInto, decimal_from, runs_of};
+ghost use Rattle.conda_version.specs.Runs.{IsCutInto, runs_of};
+ghost use Rattle.byte_text.specs.Decimal.{decimal_from};
 ghost use Rattle.conda_version.specs.Tree.{Allows, Any, HasTree, IsTreeOf, any_holds};
 ghost use Rattle.conda_version.specs.Version.{Value, components, number, runs};
 

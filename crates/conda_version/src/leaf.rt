@@ -1,13 +1,13 @@
 //! A leaf of a constraint: how it is read, and which versions pass it.
 
 ghost use Rattle.std.specs.Prelude.{◌≡◌, ◌+◌, ◌<◌, ◌≤◌, ◌^◌, ◌&&◌, IfErr, IfSome, length, not};
-ghost use Rattle.conda_version.specs.Leaf.{before_last, ends_in_star, inner_star, strip_end, version_text};
-ghost use Rattle.conda_version.specs.Text.{text_of};
+ghost use Rattle.conda_version.specs.Leaf.{ends_in_star, inner_star, strip_end, version_text};
+ghost use Rattle.byte_text.specs.Text.{before_last, text_of};
 ghost use Rattle.gateway_words.specs.Ascii.{dot};
 
 use crate::fault::{ConstraintFault, VersionFault};
-use crate::operator::{Operator, Relation, operator_of, sign_len};
-use crate::text::{drop_blanks, find, skip_blanks};
+use crate::operator::{Operator, Relation, operator_of};
+use byte_text::{before_last, drop_blanks, find, sign_len, skip_blanks};
 use crate::version::Version;
 
 // What a leaf tests of a version: nothing, its relation to another one, or both halves of `~=`.
@@ -109,7 +109,7 @@ impl<'a> LeafTest<'a> {
             ≡ compatible_of at (meaning version.entry) (read_there (before_last dot text.now)) }
         ensures within { IfErr result (λ f. place_of f ≡ at) }
     {
-        let Some(front) = before_last_dot(text) else {
+        let Some(front) = before_last(b'.', text) else {
             return Err(ConstraintFault::Version(at as u64));
         };
         match Version::read_bytes(front) {
@@ -199,20 +199,6 @@ fn without_dot(text: &[u8]) -> &[u8]
         [front @ .., b'.'] => front,
         _ => text,
     }
-}
-
-// What stands before the last `.`.
-fn before_last_dot(text: &[u8]) -> Option<&[u8]>
-    ensures { text_of result ≡ before_last dot text.now }
-{
-    let mut front = text;
-    'bytes: while let [before @ .., byte] = front {
-        if *byte == b'.' {
-            return Some(before);
-        }
-        front = before;
-    }
-    None
 }
 
 ghost use Rattle.conda_version.specs.Allowing.{passes_leaf};

@@ -17,7 +17,6 @@ mod operator;
 mod order;
 mod parts;
 mod scan;
-mod text;
 mod token;
 mod version;
 

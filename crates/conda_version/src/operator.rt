@@ -1,7 +1,8 @@
 //! The operators of a leaf, and the relations that they stand for.
 
 ghost use Rattle.std.specs.Prelude.{◌≡◌, ◌≤◌, length};
-ghost use Rattle.conda_version.specs.Leaf.{is_sign, operator_of, sign_len};
+ghost use Rattle.conda_version.specs.Leaf.{operator_of};
+ghost use Rattle.byte_text.specs.Text.{is_sign, sign_len};
 ghost use Rattle.conda_version.specs.Seen.{operator_seen};
 
 /// What stands before the version of a leaf.
@@ -46,30 +47,6 @@ pub(crate) enum Relation {
     Greater,
     /// It is that one or above it.
     AtLeast,
-}
-
-// Whether operators are made of this byte.
-fn is_sign(byte: u8) -> bool
-    ensures { result ≡ is_sign byte }
-{
-    matches!(byte, b'<' | b'=' | b'>' | b'!' | b'~')
-}
-
-// How many signs a text begins with.
-pub(crate) fn sign_len(text: &[u8]) -> usize
-    ensures value { result ≡ sign_len text.now }
-    ensures within { result ≤ length text.now }
-{
-    let mut len = 0;
-    let mut rest = text;
-    'bytes: while let [byte, tail @ ..] = rest {
-        if !is_sign(*byte) {
-            break;
-        }
-        len += 1;
-        rest = tail;
-    }
-    len
 }
 
 // The operator that a run of signs is, if it is one.

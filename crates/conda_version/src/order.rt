@@ -6,7 +6,7 @@ ghost use Rattle.std.specs.Cmp.Lexicographic.{slice_cmp};
 ghost use Rattle.conda_version.specs.Cursor.{word_run};
 ghost use Rattle.conda_version.specs.Order.{begins_with, lists_begin, lists_cmp, rank, run_begins, run_cmp};
 ghost use Rattle.conda_version.specs.Grammar.{is_narrow};
-ghost use Rattle.conda_version.specs.Text.{is_nil};
+ghost use Rattle.byte_text.specs.Text.{is_nil};
 ghost use Rattle.conda_version.specs.Version.{folded, lists};
 
 use crate::cursor::{Step, behind, both_at_end, both_empty, both_go_on, folded, next_step};

@@ -4,11 +4,12 @@ ghost use Rattle.std.specs.Prelude.{◌≡◌, ◌^◌, ◌<◌, ◌≤◌, IfNo
 ghost use Rattle.std.specs.Char.{is_ascii_digit};
 ghost use Rattle.std.specs.List.{list_any};
 ghost use Rattle.conda_version.specs.Grammar.{ends_in_underscore, epoch_run, has_empty, has_empty_local, has_plus, has_two, if_there, is_no_number, is_wide_part};
-ghost use Rattle.conda_version.specs.Text.{text_of};
-ghost use Rattle.conda_version.specs.Version.{digit_zero, number, with_digit};
+ghost use Rattle.byte_text.specs.Text.{text_of};
+ghost use Rattle.conda_version.specs.Version.{number};
+ghost use Rattle.byte_text.specs.Decimal.{digit_zero, with_digit};
 
 use crate::cursor::{cuts, is_underscore, number};
-use crate::text::cut_at;
+use byte_text::cut_at;
 
 // The parts of a text that may be a version: what stands before its first `!`, from there to the
 // next `+`, and behind that.

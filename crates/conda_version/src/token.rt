@@ -3,7 +3,7 @@
 ghost use Rattle.std.specs.Prelude.{◌≡◌, ◌+◌, ◌<◌, ◌≤◌, ◌^◌, IfSome, drop, length, take};
 ghost use Rattle.conda_version.specs.Cursor.{leaf_len};
 
-use crate::text::skip_blanks;
+use byte_text::skip_blanks;
 
 // A leaf's text, with the blanks behind it, or one of the four signs between leaves.
 #[derive(Clone, Copy)]
@@ -28,7 +28,7 @@ impl<'a> Found<'a> {
     ghost use Rattle.conda_version.specs.Seen.{IsFollowed, found_tokens, token_in};
     ghost use Rattle.conda_version.specs.Token.{leaf, tokens_from};
     ghost use Rattle.std.specs.Prelude.{None, Some, false};
-    ghost use Rattle.conda_version.specs.Text.{begins_at};
+    ghost use Rattle.byte_text.specs.Text.{begins_at};
     ghost use Rattle.gateway_words.specs.Ascii.{space};
 
     // The next token of some bytes that begin at a place, between leaves.

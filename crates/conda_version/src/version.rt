@@ -6,7 +6,7 @@ ghost use Rattle.conda_version.specs.Grammar.{first_wrong, has_underscore, is_na
 use crate::fault::VersionFault;
 use crate::order::{begins, compare_parts};
 use crate::parts::{Cut, epoch_number};
-use crate::text::{drop_blanks, or_empty, skip_blanks};
+use byte_text::{drop_blanks, or_empty, skip_blanks};
 use std::cmp::Ordering;
 
 /// A version, read from a text that lives on: an epoch, a main part and a local part, each part cut

@@ -6,11 +6,11 @@ use Rattle.gateway_tool.specs.declared.note.Note.{Note}
 use Rattle.gateway_tool.specs.declared.note.Note.TheVariants as note
 use Rattle.gateway_tool.specs.Status.{status_ok, status_write_fault, status_out_of_memory, status_store_fault, status_bad_file, IsOneOf, HasStatusCause}
 use Rattle.gateway_tool.specs.Index.{IndexAnswers}
-use Rattle.gateway_tool.specs.Command.{Asked, Show, Index, command_of, Outside, Does, FilesAnswers}
+use Rattle.gateway_tool.specs.Command.{Task, Show, Index, command_of, Outside, Does, FilesAnswers}
 use Rattle.gateway_tool.specs.Meant.{IsShow}
 
 -- where memory ran out at its words, show reads and writes nothing
-pub nothing_is_done : (asked : Option Asked) (same : Outside) → IfSome asked IsShow
+pub nothing_is_done : (asked : Option Task) (same : Outside) → IfSome asked IsShow
     → IfSome asked (λ a. Does a same same status_out_of_memory note.Nothing)
 nothing_is_done None same is = tt
 nothing_is_done (Some (Show spec)) same is = search rules
@@ -41,8 +41,8 @@ module _ (words : List (List ℕ)) (place : List ℕ) (left : Option (List ℕ))
   index_answers before now was is fell stood asks answers write store =
       record {
         usage = λ e. absurd (true≢false (sym (subst (IsOneOf (status_ok ∷ status_write_fault ∷ status_out_of_memory ∷ status_store_fault ∷ status_bad_file ∷ [])) e answers.statuses)));
-        wrong_words = λ none. absurd (let wrong : ◌≡◌ {A = Option Asked} (Some (Index place)) None = sym asks ∙ none in cc);
-        does = subst (λ (o : Option Asked). IfSome o (λ asked. Does asked before now status said)) (sym asks) answers;
+        wrong_words = λ none. absurd (let wrong : ◌≡◌ {A = Option Task} (Some (Index place)) None = sym asks ∙ none in cc);
+        does = subst (λ (o : Option Task). IfSome o (λ asked. Does asked before now status said)) (sym asks) answers;
         noted = answers.noted;
         read_fault = record {
           later = omega (arith, fell, stood);

@@ -15,12 +15,12 @@ use Rattle.gateway_tool.specs.Show.{ShowAnswers}
 use Rattle.gateway_tool.specs.Index.{IndexAnswers}
 
 -- what words ask for: the records of a shard that a spec matches, or that a place be indexed
-pub data Asked : Type 0 where
-  Show : Meaning → Asked
-  Index : List ℕ → Asked
+pub data Task : Type 0 where
+  Show : Meaning → Task
+  Index : List ℕ → Task
 
 -- what the words ask for, if they are those of a command: its name and its own words behind it
-abbrev pub command_of : List (List ℕ) → Option Asked
+abbrev pub command_of : List (List ℕ) → Option Task
 command_of [] = None
 command_of (name ∷ words) =
     if bytes_eq name (codes "show") then option_map Show (show_words words)
@@ -53,7 +53,7 @@ pub record DoesShow (spec : Meaning) (before now : Outside) (status : ℕ) (said
   pub whole : status ≡ status_ok → IsAtEnd now.left
 
 -- what a command answers, and does to what is outside
-abbrev pub Does : Asked → Outside → Outside → ℕ → Note → Type 0
+abbrev pub Does : Task → Outside → Outside → ℕ → Note → Type 0
 Does (Show spec) before now status said = DoesShow spec before now status said
 Does (Index place) before now status said = IndexAnswers place before.files now.files before.written now.written status said
 
@@ -74,8 +74,8 @@ pub record FilesAnswers (words : List (List ℕ)) (before now : Outside) (status
   pub statuses : IsOneOf (status_ok ∷ status_usage ∷ status_read_fault ∷ status_write_fault ∷ status_out_of_memory ∷ status_too_much_input ∷ status_store_fault ∷ status_bad_file ∷ []) status
 
 -- what the words leave as it was: wrong words all, show the store, and index the input
-abbrev pub Leaves : {I O S : Type 0} → Option Asked → I → I → O → O → S → S → Type 0
-Leaves None input_before input_now out_before out_now store_before store_now =
+abbrev pub LeavesAlone : {I O S : Type 0} → Option Task → I → I → O → O → S → S → Type 0
+LeavesAlone None input_before input_now out_before out_now store_before store_now =
     (input_now ≡ input_before) × (out_now ≡ out_before) × (store_now ≡ store_before)
-Leaves (Some (Show spec)) input_before input_now out_before out_now store_before store_now = store_now ≡ store_before
-Leaves (Some (Index place)) input_before input_now out_before out_now store_before store_now = input_now ≡ input_before
+LeavesAlone (Some (Show spec)) input_before input_now out_before out_now store_before store_now = store_now ≡ store_before
+LeavesAlone (Some (Index place)) input_before input_now out_before out_now store_before store_now = input_now ≡ input_before

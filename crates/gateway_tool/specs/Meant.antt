@@ -3,15 +3,15 @@ use Rattle.std.specs.Prelude.{◌≡◌, true}
 use Rattle.channel_store.specs.Names.{is_place}
 use Rattle.gateway_tool.specs.declared.words.Command.{Command}
 use Rattle.gateway_tool.specs.declared.words.Command.TheVariants as command
-use Rattle.gateway_tool.specs.Command.{Asked, Show, Index}
+use Rattle.gateway_tool.specs.Command.{Task, Show, Index}
 
 -- what the command asks for
-abbrev pub meant : Command → Asked
+abbrev pub meant : Command → Task
 meant (command.Show spec) = Show spec
 meant (command.Index place) = Index place.now
 
 -- what is asked is show
-abbrev pub IsShow : Asked → Type 0
+abbrev pub IsShow : Task → Type 0
 IsShow (Show spec) = Unit
 IsShow (Index place) = ⊥
 

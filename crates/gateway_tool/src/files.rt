@@ -1,5 +1,5 @@
 //! The commands over an input and a store of files: `show` and `index`.
-ghost use Rattle.gateway_tool.specs.Command.{command_of, outside, FilesAnswers, Leaves};
+ghost use Rattle.gateway_tool.specs.Command.{command_of, outside, FilesAnswers, LeavesAlone};
 
 use crate::Note;
 use crate::index::index;
@@ -35,7 +35,7 @@ pub fn run_files<I: Source, O: Sink, S: Store>(
         (I.faults input.new) (O.faults out.new) (S.faults store.new))
         result.0 result.1 }
     // `show` leaves the store, `index` the input, and wrong words all.
-    ensures leaves { Leaves (command_of words.now)
+    ensures leaves { LeavesAlone (command_of words.now)
         input.old input.new out.old out.new store.old store.new }
 {
     match command_of(alloc, words) {

@@ -5,7 +5,8 @@ use Rattle.std.specs.Str.{bytes_eq}
 use Rattle.std.proofs.lemmas.Slice.Eq.{bytes_eq-Decides}
 use Rattle.http_head.specs.declared.framing.Framing.{Framing}
 use Rattle.http_head.specs.declared.framing.Framing.TheVariants as framing
-use Rattle.http_head.specs.Framing.{Named, is_named, content_length, transfer_encoding, lengths_in, decimal_from, is_number, framing_by, framing_in, framing_of, found_in, framed, framing_from}
+use Rattle.http_head.specs.Framing.{Named, is_named, content_length, transfer_encoding, lengths_in, is_number, framing_by, framing_in, framing_of, found_in, framed, framing_from}
+use Rattle.byte_text.specs.Decimal.{decimal_from}
 
 -- the tests of the lengths, in one row
 judged : (numbers same : Bool) (by : Framing) → Framing

@@ -1,4 +1,3 @@
-mod NumberLemmas
 mod FramingLemmas
 mod HeadLemmas
 pub mod ReplyLemmas

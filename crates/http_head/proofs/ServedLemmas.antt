@@ -19,7 +19,8 @@ use Rattle.http_head.specs.declared.reply.Reply.{Reply}
 use Rattle.http_head.specs.declared.reply.Reply.TheVariants as reply
 use Rattle.http_head.specs.declared.framing.Framing.TheVariants as framing
 use Rattle.http_head.specs.declared.framing.Framing.{Framing}
-use Rattle.http_head.specs.Framing.{decimal_from, is_number, framing_by, framing_of}
+use Rattle.http_head.specs.Framing.{is_number, framing_by, framing_of}
+use Rattle.byte_text.specs.Decimal.{decimal_from}
 use Rattle.http_head.specs.Head.{head_limit}
 use Rattle.http_head.specs.Reply.{body_by, reply_by, reply_with}
 use Rattle.gateway_words.specs.Ascii.{crlf}

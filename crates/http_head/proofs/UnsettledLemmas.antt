@@ -11,7 +11,8 @@ use Rattle.http_head.specs.declared.reply.Frame.TheVariants as frame
 use Rattle.http_head.specs.declared.reply.Reply.TheVariants as reply
 use Rattle.http_head.specs.declared.framing.Framing.{Framing}
 use Rattle.http_head.specs.declared.framing.Framing.TheVariants as framing
-use Rattle.http_head.specs.Framing.{Named, is_named, transfer_encoding, lengths_in, is_number, decimal_from, framing_by, framing_in, framing_of}
+use Rattle.http_head.specs.Framing.{Named, is_named, transfer_encoding, lengths_in, is_number, framing_by, framing_in, framing_of}
+use Rattle.byte_text.specs.Decimal.{decimal_from}
 use Rattle.http_head.specs.Head.{head_limit}
 use Rattle.http_head.specs.Reply.{body_by, reply_by, is_settled}
 use Rattle.http_head.specs.Law.{NothingIsUnsettled, UnsettledIsShort}

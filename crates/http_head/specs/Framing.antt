@@ -1,8 +1,9 @@
 -- How long a reply's body is, by the fields of its head (RFC 9112, 6.3, in this project's profile).
-use Rattle.std.specs.Prelude.{ℕ, ◌+◌, ◌-◌, ◌*◌, List, [], ◌∷◌, length, codes, Bool, true, not, ◌&&◌, nat_lt, Option, Some, None, if◌then◌else◌}
+use Rattle.std.specs.Prelude.{ℕ, List, [], ◌∷◌, length, codes, Bool, true, not, ◌&&◌, nat_lt, Option, Some, None, if◌then◌else◌}
 use Rattle.std.specs.List.{list_all, list_any}
 use Rattle.std.specs.Char.{is_ascii_digit}
 use Rattle.std.specs.Str.{bytes_eq, str_eq_ignore_ascii_case}
+use Rattle.byte_text.specs.Decimal.{decimal_from}
 use Rattle.gateway_words.specs.Limits.{most_served_bytes}
 use Rattle.http_head.specs.declared.reply.Frame.TheVariants as frame
 use Rattle.http_head.specs.declared.framing.Framing.{Framing}
@@ -28,11 +29,6 @@ transfer_encoding = codes "transfer-encoding"
 abbrev pub lengths_in : List Named → List (List ℕ)
 lengths_in [] = []
 lengths_in (f ∷ fields) = if is_named content_length f then f.1 ∷ lengths_in fields else lengths_in fields
-
--- the number that some digits are, behind others that are n
-abbrev pub decimal_from : ℕ → List ℕ → ℕ
-decimal_from n [] = n
-decimal_from n (b ∷ rest) = decimal_from (n * 10 + (b - 0x30)) rest
 
 -- one or more digits
 abbrev pub is_number : List ℕ → Bool

@@ -5,9 +5,11 @@ ghost use Rattle.std.specs.Char.{is_ascii_digit};
 ghost use Rattle.std.specs.List.{list_all};
 ghost use Rattle.std.specs.Str.{bytes_eq, str_eq_ignore_ascii_case};
 ghost use Rattle.httparse.specs.Spans.{IsHeaderWithin, IsWithin, span_bytes, header_bytes};
-ghost use Rattle.http_head.specs.Framing.{agrees, decimal_from, framing_by, framing_found, framing_from, framing_of, found_behind, is_number, is_named, content_length, transfer_encoding};
+ghost use Rattle.http_head.specs.Framing.{agrees, framing_by, framing_found, framing_from, framing_of, found_behind, is_number, is_named, content_length, transfer_encoding};
+ghost use Rattle.byte_text.specs.Decimal.{decimal_from};
 
 use crate::reply::{BODY_LIMIT, Frame};
+use byte_text::{are_digits, decimal};
 use httparse::spans::{HeaderSpan, Span};
 
 /// What the fields of a head say of the body.
@@ -113,39 +115,4 @@ fn is_number(text: &[u8]) -> bool
     ensures { result ≡ is_number text.now }
 {
     !text.is_empty() && are_digits(text)
-}
-
-fn are_digits(text: &[u8]) -> bool
-    ensures { result ≡ list_all is_ascii_digit text.now }
-{
-    text.iter().all(|b| b.is_ascii_digit())
-}
-
-// The number that some digits are, if it fits.
-fn decimal(digits: &[u8]) -> Option<u64>
-    ensures { result
-        ≡ (if nat_lt (decimal_from 0 digits.now) (2 ^ 64)
-        then Some (decimal_from 0 digits.now) else None) }
-{
-    let mut number = 0u64;
-    let mut rest = digits;
-    'digits: while let [digit, tail @ ..] = rest {
-        let Some(longer) = with_digit(number, *digit) else {
-            return None;
-        };
-        number = longer;
-        rest = tail;
-    }
-    Some(number)
-}
-
-// A number with one digit more, if that fits.
-fn with_digit(number: u64, digit: u8) -> Option<u64>
-    ensures none { IfNone result (2 ^ 64 ≤ number * 10 + (digit - 0x30)) }
-    ensures some { IfSome result (λ longer.
-        (longer ≡ number * 10 + (digit - 0x30)) × (longer < 2 ^ 64)) }
-{
-    number
-        .checked_mul(10)?
-        .checked_add(u64::from(digit.saturating_sub(b'0')))
 }

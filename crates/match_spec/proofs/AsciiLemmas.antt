@@ -12,8 +12,8 @@ use Rattle.std.proofs.lemmas.Str.{IsUtf8-from_ascii}
 use Rattle.gateway_words.specs.Ascii.{asterisk, dot, space}
 use Rattle.conda_version.specs.Constraint.{constraint_fault, unless_fault}
 use Rattle.conda_version.specs.Grammar.{first_wrong, has_underscore, is_wrong, version_of, version_unless}
-use Rattle.conda_version.specs.Leaf.{behind_signs, body_of, body_unless, ends_in_star, inner_star, is_compatible, is_sign, is_text, leaf_by, leaf_of, operand_of, operator_of, sign_len, signs, strip_end, strip_front, version_text, versioned}
-use Rattle.conda_version.specs.Text.{drop_blanks, is_nil, skip_blanks}
+use Rattle.conda_version.specs.Leaf.{behind_signs, body_of, body_unless, ends_in_star, inner_star, is_compatible, is_text, leaf_by, leaf_of, operand_of, operator_of, signs, strip_end, strip_front, version_text, versioned}
+use Rattle.byte_text.specs.Text.{drop_blanks, is_nil, is_sign, sign_len, skip_blanks}
 use Rattle.conda_version.specs.Token.{Open, Placed, Token, closed, ended_by, longer, open_behind, sign_of, tokens_from}
 use Rattle.conda_version.specs.Version.{Value}
 use Rattle.conda_version.specs.declared.fault.ConstraintFault.{ConstraintFault}

@@ -8,8 +8,7 @@ use Rattle.gateway_words.specs.Reading.{◌>>=◌}
 use Rattle.conda_name.specs.Dependency.{name_run}
 use Rattle.conda_name.specs.Name.{lower_case}
 use Rattle.conda_version.specs.Constraint.{constraint_of}
-use Rattle.conda_version.specs.Leaf.{before_last}
-use Rattle.conda_version.specs.Text.{cut_at, drop_blanks, is_nil, skip_blanks}
+use Rattle.byte_text.specs.Text.{before_last, cut_at, drop_blanks, is_nil, skip_blanks}
 use Rattle.conda_version.specs.declared.fault.ConstraintFault.{ConstraintFault}
 use Rattle.conda_version.proofs.BlankLemmas.{skip-within}
 use Rattle.match_spec.specs.Blanks.{moved, moved_fault}

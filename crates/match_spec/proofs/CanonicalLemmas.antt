@@ -22,8 +22,8 @@ use Rattle.conda_name.specs.Name.{IsName, first_wrong, is_name_byte, lower_case,
 use Rattle.conda_name.specs.declared.name.NameRefusal.{NameRefusal}
 use Rattle.conda_name.proofs.NameLemmas.{AreNameBytes, right-all}
 use Rattle.conda_version.specs.Constraint.{constraint_fault, unless_fault}
-use Rattle.conda_version.specs.Leaf.{behind_signs, is_sign, sign_len, signs, turned_round}
-use Rattle.conda_version.specs.Text.{begins_at, drop_blanks, is_nil, skip_blanks}
+use Rattle.conda_version.specs.Leaf.{behind_signs, signs}
+use Rattle.byte_text.specs.Text.{begins_at, drop_blanks, is_nil, is_sign, sign_len, skip_blanks, turned_round}
 use Rattle.match_spec.specs.Bracket.{Entry, Halves, Value, ends_key, entries, entries_within, entry_by, entry_of, halves_by, halves_of, is_equals_at, open_quote, quoted, quoted_entry, unless_open, valued_entry}
 use Rattle.match_spec.specs.Canonical.{Pair, canonical, comparison_text, has_canonical, is_unquoted, key_text, number_text, pair_of, pair_text, pairs_of}
 use Rattle.match_spec.specs.Comparison.{Comparison}
@@ -31,7 +31,7 @@ use Rattle.match_spec.specs.Comparison as comparison
 use Rattle.match_spec.specs.Key.{Key}
 use Rattle.match_spec.specs.Key as key
 use Rattle.match_spec.specs.Legal.{IsSpec}
-use Rattle.conda_version.specs.Runs.{decimal_from}
+use Rattle.byte_text.specs.Decimal.{decimal_from}
 use Rattle.match_spec.specs.Number.{NumberTest, comparison_of, number_of, number_test, test_by}
 use Rattle.match_spec.specs.Parts.{Meaning, Parts, no_parts, part_or, replaced}
 use Rattle.match_spec.specs.Passage.{Passage, begun, behind, behind_by, beyond, front, front_by, trimmed, until}

@@ -3,7 +3,7 @@ use Rattle.std.proofs.Common.{◌≡◌, ◌+◌, ◌≤◌, ◌<◌, ◌-◌, �
 use Rattle.std.specs.Prelude.{filter, not, ◌==◌, Option, unwrap_or, IfSome, if◌then◌else◌}
 use Rattle.std.proofs.lemmas.List.{append_assoc, drop_more, reverse-append, take_all, take_more}
 use Rattle.gateway_words.specs.Ascii.{space}
-use Rattle.conda_version.specs.Text.{begins_at, drop_blanks, skip_blanks}
+use Rattle.byte_text.specs.Text.{begins_at, drop_blanks, skip_blanks}
 use Rattle.std.proofs.lemmas.Bool.{cases_Bool}
 use Rattle.match_spec.specs.Kept.{Placed, are_bound, blank_at, blanks_stay, kept, place_in, place_of_last, placed_from, stays}
 

@@ -15,8 +15,8 @@ use Rattle.conda_name.specs.Dependency.{name_run}
 use Rattle.conda_name.specs.Name.{IsName, lower_case}
 use Rattle.conda_name.proofs.NameLemmas.{lower-name, run-all, all-right}
 use Rattle.conda_version.specs.Constraint.{constraint_fault}
-use Rattle.conda_version.specs.Leaf.{before_last, behind_signs, signs}
-use Rattle.conda_version.specs.Text.{cut_at, is_nil, skip_blanks}
+use Rattle.conda_version.specs.Leaf.{behind_signs, signs}
+use Rattle.byte_text.specs.Text.{before_last, cut_at, is_nil, skip_blanks}
 use Rattle.conda_version.specs.declared.fault.ConstraintFault.{ConstraintFault}
 use Rattle.match_spec.specs.Bracket.{Entry, Halves, Value, bare, entries, halves_of, quoted, unclosed}
 use Rattle.match_spec.specs.Comparison.{Comparison}
@@ -24,7 +24,7 @@ use Rattle.match_spec.specs.Key.{Key}
 use Rattle.match_spec.specs.Key as key
 use Rattle.match_spec.specs.Kept.{Placed, bytes_of, form_constraint, form_of, kept, place_of_last}
 use Rattle.match_spec.specs.Legal.{IsSpec}
-use Rattle.conda_version.specs.Runs.{decimal_from}
+use Rattle.byte_text.specs.Decimal.{decimal_from}
 use Rattle.match_spec.specs.Number.{NumberTest, comparison_of, number_of, number_test, test_by}
 use Rattle.match_spec.specs.Parts.{Meaning, Parts, no_parts, part_or, replaced}
 use Rattle.match_spec.specs.Passage.{Passage, begun, behind, ended, trimmed}

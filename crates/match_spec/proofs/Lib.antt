@@ -1,5 +1,4 @@
 pub mod EntryLemmas
-pub mod NumberLemmas
 pub mod KeptLemmas
 pub mod StarLemmas
 pub mod AsciiLemmas

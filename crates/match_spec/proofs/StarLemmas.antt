@@ -9,7 +9,7 @@ use Rattle.std.proofs.lemmas.List.{drop-append-le}
 use Rattle.std.proofs.Math.Seq.{drop-append_seam}
 use Rattle.std.proofs.lemmas.List.Sums.{split_at_first, passes_at_first, take_while-cons}
 use Rattle.gateway_words.specs.Ascii.{asterisk}
-use Rattle.conda_version.specs.Text.{begins_at, cut_at, cut_by}
+use Rattle.byte_text.specs.Text.{begins_at, cut_at, cut_by}
 use Rattle.match_spec.specs.StarBuild.{FitsBuild, behind_first, behind_start, filled, first_text, fits_build, later_texts, or_else, some_end, tail_of}
 
 -- no byte is a star

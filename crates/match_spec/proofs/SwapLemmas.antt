@@ -3,7 +3,7 @@ use Rattle.std.proofs.Common.{◌≡◌, ◌∙◌, List, [], ◌∷◌, ◌++�
 use Rattle.std.specs.Prelude.{Option, Some, None, Ok, Err, if◌then◌else◌}
 use Rattle.std.proofs.lemmas.Bool.{false≢true}
 use Rattle.gateway_words.specs.Reading.{◌>>=◌}
-use Rattle.conda_version.specs.Text.{is_nil, skip_blanks}
+use Rattle.byte_text.specs.Text.{is_nil, skip_blanks}
 use Rattle.match_spec.specs.Bracket.{Entry, Value, bare, quoted, unclosed}
 use Rattle.match_spec.specs.Key.{Key}
 use Rattle.match_spec.specs.Key as key

@@ -1,7 +1,7 @@
 -- The bracket of a spec: where it begins, and the parts that stand in it (docs/FORMATS.md, "Specs").
 use Rattle.std.specs.Prelude.{ℕ, suc, zero, ◌+◌, ◌-◌, ◌==◌, Bool, true, false, List, [], ◌∷◌, length, reverse, position, Option, Some, None, Result, Ok, Err, if◌then◌else◌}
 use Rattle.gateway_words.specs.Ascii.{comma, equals_sign}
-use Rattle.conda_version.specs.Text.{begins_at}
+use Rattle.byte_text.specs.Text.{begins_at}
 use Rattle.match_spec.specs.Passage.{Passage, begun, behind, beyond, ended, front, until}
 use Rattle.match_spec.specs.Signs.{is_quote, left_bracket, right_bracket}
 use Rattle.match_spec.specs.declared.fault.SpecFault.{SpecFault}

@@ -5,7 +5,7 @@ use Rattle.std.specs.List.{list_all, list_any}
 use Rattle.gateway_words.specs.Ascii.{asterisk, equals_sign, space}
 use Rattle.conda_version.specs.Grammar.{is_version_byte}
 use Rattle.conda_version.specs.Leaf.{ends_in_star, is_text, signs, strip_end, strip_front}
-use Rattle.conda_version.specs.Text.{begins_at, cut_at, drop_blanks, skip_blanks}
+use Rattle.byte_text.specs.Text.{begins_at, cut_at, drop_blanks, skip_blanks}
 use Rattle.match_spec.specs.Signs.{is_mark}
 
 -- ---- blanks that are dropped

@@ -4,7 +4,7 @@ use Rattle.std.specs.Option.{ForSome}
 use Rattle.hex.specs.Hex.{IsBytes}
 use Rattle.conda_name.specs.Name.{IsName}
 use Rattle.conda_version.specs.Constraint.{constraint_fault}
-use Rattle.conda_version.specs.Text.{is_nil}
+use Rattle.byte_text.specs.Text.{is_nil}
 use Rattle.match_spec.specs.Number.{NumberTest}
 use Rattle.match_spec.specs.Parts.{Meaning}
 use Rattle.match_spec.specs.Reading.{is_build}

@@ -23,5 +23,5 @@ pub use Rattle.conda_version.specs.Allowing
 pub use Rattle.conda_version.specs.Constraint
 pub use Rattle.conda_version.specs.Leaf
 pub use Rattle.conda_version.specs.Runs
-pub use Rattle.conda_version.specs.Text
+pub use Rattle.byte_text.specs.Text
 pub use Rattle.conda_version.specs.Tree

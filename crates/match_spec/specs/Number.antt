@@ -3,8 +3,8 @@ use Rattle.std.specs.Prelude.{ℕ, ◌^◌, ◌==◌, ◌&&◌, nat_lt, nat_le, 
 use Rattle.std.specs.Char.{is_ascii_digit}
 use Rattle.std.specs.List.{list_all}
 use Rattle.conda_version.specs.Leaf.{behind_signs, is_text, signs}
-use Rattle.conda_version.specs.Runs.{decimal_from}
-use Rattle.conda_version.specs.Text.{is_nil}
+use Rattle.byte_text.specs.Decimal.{decimal_from}
+use Rattle.byte_text.specs.Text.{is_nil}
 use Rattle.match_spec.specs.Comparison.{Comparison}
 use Rattle.match_spec.specs.Comparison as comparison
 

@@ -1,6 +1,6 @@
 -- Passages of a text: some of its bytes, and the place where they stand in it.
 use Rattle.std.specs.Prelude.{ℕ, ◌+◌, ◌-◌, ◌==◌, List, length, take, drop, position, Option, Some, None}
-use Rattle.conda_version.specs.Text.{drop_blanks, skip_blanks}
+use Rattle.byte_text.specs.Text.{drop_blanks, skip_blanks}
 
 -- a place in the whole text, and the bytes that stand there
 pub record Passage : Type 0 where

@@ -8,8 +8,8 @@ use Rattle.gateway_words.specs.Reading.{◌>>=◌}
 use Rattle.conda_name.specs.Dependency.{name_run}
 use Rattle.conda_name.specs.Name.{lower_case}
 use Rattle.conda_version.specs.Constraint.{constraint_of}
-use Rattle.conda_version.specs.Leaf.{before_last, is_text, turned_round}
-use Rattle.conda_version.specs.Text.{begins_at, cut_at, is_nil, skip_blanks}
+use Rattle.conda_version.specs.Leaf.{is_text}
+use Rattle.byte_text.specs.Text.{before_last, begins_at, cut_at, is_nil, skip_blanks, turned_round}
 use Rattle.conda_version.specs.declared.fault.ConstraintFault.{ConstraintFault}
 use Rattle.match_spec.specs.Bracket.{Entry, Value, bare, entries, halves_of, quoted, unclosed}
 use Rattle.match_spec.specs.Key.{Key}

@@ -1,7 +1,7 @@
 -- Which builds a build with stars matches (docs/FORMATS.md, "Specs").
 use Rattle.std.specs.Prelude.{◌≡◌, ℕ, ◌==◌, ◌||◌, ◌&&◌, Bool, List, [], ◌∷◌, ◌++◌, Option, Some, None, if◌then◌else◌}
 use Rattle.gateway_words.specs.Ascii.{asterisk}
-use Rattle.conda_version.specs.Text.{begins_at, is_nil}
+use Rattle.byte_text.specs.Text.{begins_at, is_nil}
 
 -- the first of some texts, and the empty one where there is none
 abbrev pub first_text : List (List ℕ) → List ℕ

@@ -13,7 +13,7 @@ use crate::fault::{SpecFault, SpecRefusal};
 use crate::key::{Key, key_of};
 use crate::parts::Parts;
 use crate::passage::Passage;
-use crate::text::find;
+use byte_text::find;
 use std::alloc::Global;
 
 // What stands before the bracket of a spec, and what stands in it, if it has one.

@@ -2,12 +2,12 @@
 
 ghost use Rattle.std.specs.Prelude.{◌≡◌, ◌↔◌, ◌≤◌, ◌&&◌, not, Bool, IsTrue, length};
 ghost use Rattle.std.specs.List.{list_all};
-ghost use Rattle.conda_version.specs.Text.{text_of};
+ghost use Rattle.byte_text.specs.Text.{text_of};
 ghost use Rattle.match_spec.specs.Reading.{is_build};
 ghost use Rattle.match_spec.specs.Signs.{is_build_byte};
 ghost use Rattle.match_spec.specs.StarBuild.{behind_first, behind_start, fits_build, some_end};
 
-use crate::text::cut_at;
+use byte_text::cut_at;
 
 // Whether a text is a build: it has bytes, and each of them may stand in one.
 pub(crate) fn is_build(text: &[u8]) -> bool

@@ -1,12 +1,12 @@
 //! The parts of a spec's bracket, one after the other.
 
 ghost use Rattle.std.specs.Prelude.{◌≡◌, ◌<◌, ◌==◌, IfSome, length, position};
-ghost use Rattle.conda_version.specs.Text.{begins_at};
+ghost use Rattle.byte_text.specs.Text.{begins_at};
 ghost use Rattle.match_spec.specs.Bracket.{ends_key, opening_quote};
 ghost use Rattle.match_spec.specs.Signs.{is_quote};
 
 use crate::passage::Passage;
-use crate::text::find;
+use byte_text::find;
 
 // What stands behind the `=` of a part.
 #[derive(Clone, Copy)]

@@ -4,12 +4,12 @@ ghost use Rattle.std.specs.Prelude.{◌≡◌, ◌≤◌, IfOk, IfSome, length};
 ghost use Rattle.std.specs.List.{list_all};
 ghost use Rattle.conda_version.specs.Grammar.{is_version_byte};
 ghost use Rattle.conda_version.specs.Leaf.{strip_end, strip_front};
-ghost use Rattle.conda_version.specs.Text.{pair_of};
+ghost use Rattle.byte_text.specs.Text.{pair_of};
 ghost use Rattle.gateway_words.specs.Ascii.{asterisk, equals_sign};
 ghost use Rattle.match_spec.specs.Kept.{are_bound, begins_with_mark, blank_at, blanks_stay, bytes_of, ends_in_mark, form_constraint, form_of, is_form_byte, is_form_version, is_operator, is_plain_version, kept as kept_of, last_signs, place_in, place_of_last};
 ghost use Rattle.match_spec.specs.Signs.{is_mark};
 
-use crate::text::{cut_at, drop_blanks, is_sign, skip_blanks};
+use byte_text::{cut_at, drop_blanks, is_sign, skip_blanks};
 use std::alloc::{AllocError, Global};
 use std::marker::Model;
 

@@ -2,7 +2,7 @@
 
 ghost use Rattle.std.specs.Prelude.{◌≡◌, ◌+◌, ◌-◌, ◌*◌, ◌^◌, ◌<◌, ◌≤◌, IfNone, IfSome};
 
-use crate::text::sign_len;
+use byte_text::{are_digits, decimal, sign_len};
 
 // How a build number has to stand to that of a test.
 #[derive(Clone, Copy, Debug)]
@@ -51,7 +51,7 @@ impl NumberTest {
     }
 }
 
-ghost use Rattle.conda_version.specs.Runs.{decimal_from};
+ghost use Rattle.byte_text.specs.Decimal.{decimal_from};
 ghost use Rattle.match_spec.specs.Number.{comparison_of, number_of};
 ghost use Rattle.match_spec.specs.Seen.{comparison_there};
 
@@ -88,43 +88,3 @@ fn number_of(text: &[u8]) -> Option<u64>
     decimal(text)
 }
 
-ghost use Rattle.std.specs.Char.{is_ascii_digit};
-ghost use Rattle.std.specs.List.{list_all};
-ghost use Rattle.std.specs.Prelude.{true, None, nat_lt, Some, if◌then◌else◌};
-
-// Whether each byte is a digit.
-fn are_digits(text: &[u8]) -> bool
-    ensures { result ≡ list_all is_ascii_digit text.now }
-{
-    text.iter().all(|b| b.is_ascii_digit())
-}
-
-// The number that some digits are, if it fits.
-fn decimal(digits: &[u8]) -> Option<u64>
-    requires { list_all is_ascii_digit digits.now ≡ true }
-    ensures { result
-        ≡ (if nat_lt (decimal_from 0 digits.now) (2 ^ 64)
-        then Some (decimal_from 0 digits.now) else None) }
-{
-    let mut number = 0u64;
-    let mut rest = digits;
-    'digits: while let [digit, tail @ ..] = rest {
-        let Some(longer) = with_digit(number, *digit) else {
-            return None;
-        };
-        number = longer;
-        rest = tail;
-    }
-    Some(number)
-}
-
-// A number with one digit more, if that fits.
-fn with_digit(number: u64, digit: u8) -> Option<u64>
-    ensures none { IfNone result (2 ^ 64 ≤ number * 10 + (digit - 0x30)) }
-    ensures some { IfSome result (λ longer.
-        (longer ≡ number * 10 + (digit - 0x30)) × (longer < 2 ^ 64)) }
-{
-    number
-        .checked_mul(10)?
-        .checked_add(u64::from(digit.saturating_sub(b'0')))
-}

@@ -9,14 +9,15 @@ ghost use Rattle.match_spec.specs.Kept.{bytes_of, kept as kept_of};
 ghost use Rattle.match_spec.specs.Parts.{Meaning, no_parts};
 ghost use Rattle.match_spec.specs.Seen.{passage_in};
 ghost use Rattle.match_spec.specs.Reading.{fault_of, may_follow, named, named_before, outside_of, place_of, with_kept, with_rest, with_words};
-ghost use Rattle.conda_version.specs.Text.{cut_at};
+ghost use Rattle.byte_text.specs.Text.{cut_at};
 ghost use Rattle.gateway_words.specs.Ascii.{space};
 
 use crate::fault::{SpecFault, SpecRefusal};
 use crate::kept::{Placed, bytes_of, form_constraint, form_of, kept, place_of_last};
 use crate::parts::{Faults, Parts};
 use crate::passage::Passage;
-use crate::text::{before_colons, before_last, cut_at, find, skip_blanks};
+use crate::text::before_colons;
+use byte_text::{before_last, cut_at, find, skip_blanks};
 use conda_name::{Name, NameRefusal};
 use std::alloc::Global;
 use std::str;

@@ -2,7 +2,7 @@
 
 ghost use Rattle.std.specs.Prelude.{◌+◌, ◌<◌, ◌^◌, length};
 
-use crate::text::{drop_blanks, find, skip_blanks};
+use byte_text::{drop_blanks, find, skip_blanks};
 
 // A place in the whole text, and the bytes that stand there.
 #[derive(Clone, Copy)]
@@ -14,7 +14,7 @@ pub(crate) struct Passage<'a> {
 
 impl<'a> Passage<'a> {
     ghost use Rattle.std.specs.Prelude.{◌≡◌, ◌≤◌, IfSome};
-    ghost use Rattle.conda_version.specs.Text.{is_nil, skip_blanks};
+    ghost use Rattle.byte_text.specs.Text.{is_nil, skip_blanks};
     ghost use Rattle.match_spec.specs.Passage.{begun, behind, beyond, ended, front, trimmed, until};
     ghost use Rattle.match_spec.specs.Seen.{passage_in, passage_there};
 

@@ -378,13 +378,9 @@ fn expect_answers(rt: &impl Abort, alloc: Global, text: &str, wanted: u16) -> Re
     Ok(())
 }
 
-// Stops where a text isn't refused as it should be.
-fn expect_refusal(rt: &impl Abort, alloc: Global, text: &str, fault: SpecFault) {
-    let refusal = Spec::read(alloc, text).err();
-    assert!(rt;
-        refusal == Some(SpecRefusal::Fault(fault)),
-        "{text}: {refusal:?}"
-    );
+// Whether a text is refused with this fault.
+fn is_refused(alloc: Global, text: &str, fault: SpecFault) -> bool {
+    Spec::read(alloc, text).err() == Some(SpecRefusal::Fault(fault))
 }
 
 #[test]
@@ -422,6 +418,6 @@ fn the_name_is_in_lower_case(rt: HostRuntime) -> Result<(), Fail> {
 #[test]
 fn refuses_what_is_no_spec(rt: HostRuntime) {
     for (text, fault) in REFUSED {
-        expect_refusal(&rt, rt.alloc(), text, fault);
+        assert!(rt; is_refused(rt.alloc(), text, fault), "{text}");
     }
 }

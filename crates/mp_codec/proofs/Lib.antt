@@ -25,3 +25,5 @@ pub mod StrLemmas
 pub mod AsciiLemmas
 pub mod SortingLemmas
 pub mod FirstLemmas
+pub mod NameSetLemmas
+pub mod NameMapLemmas

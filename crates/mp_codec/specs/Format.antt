@@ -1,5 +1,5 @@
 -- The heads of MessagePack: what a value begins with, by its first byte (MessagePack specification, "Formats").
-use Rattle.std.specs.Prelude.{ℕ, ℤ, pos, negsuc, ◌+◌, ◌-◌, ◌*◌, ◌^◌, Bool, true, false, ◌&&◌, ◌||◌, ◌==◌, nat_lt, nat_le, List, [], ◌∷◌, length, take, Result, Ok, Err, if◌then◌else◌, slice_index_or}
+use Rattle.std.specs.Prelude.{ℕ, ℤ, pos, negsuc, ◌+◌, ◌-◌, ◌*◌, ◌^◌, Bool, true, false, ◌&&◌, ◌||◌, ◌==◌, nat_lt, nat_le, List, [], ◌∷◌, length, take, Option, Some, None, Result, Ok, Err, if◌then◌else◌, slice_index_or}
 use Rattle.mp_codec.specs.declared.fault.FaultKind.{FaultKind}
 use Rattle.mp_codec.specs.declared.fault.FaultKind.TheVariants.{Short, Reserved}
 use Rattle.mp_codec.specs.declared.head.Head.{Head}
@@ -77,6 +77,11 @@ abbrev pub part_count : Head → ℕ
 part_count (head.Array n) = n
 part_count (head.Map n) = n + n
 part_count _ = 0
+
+-- how many bytes a head and its payload claim and how many values are in it, where a head was found
+abbrev pub node_size : Result (Head × ℕ) FaultKind → Option (ℕ × ℕ)
+node_size (Ok x) = Some (x.1 + payload_len x.0, part_count x.0)
+node_size (Err kind) = None
 
 -- numbers and lengths take this many bytes
 abbrev pub is_width : ℕ → Bool

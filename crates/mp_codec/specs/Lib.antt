@@ -6,6 +6,7 @@ pub mod Spelling
 pub mod Fault
 pub mod Reading
 pub mod Maps
+pub mod Names
 pub mod Keys
 pub mod Span
 pub mod Room

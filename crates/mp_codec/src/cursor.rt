@@ -11,7 +11,7 @@ ghost use Rattle.mp_codec.specs.Spelling.{HeadLies, Lies, Breaks, short};
 ghost use Rattle.mp_codec.specs.Reading.{Steps, Passes, NodePasses, head_fault, head_from, bytes_from, node_from, values_from};
 
 use crate::fault::{FaultKind, FormatFault};
-use crate::head::{Head, head_in, short_str_in, unsigned_in};
+use crate::head::{Head, common_node_in, head_in, short_str_in, unsigned_in};
 use std::marker::Model;
 
 /// A place in some bytes. Contracts see the place and the bytes from there on.
@@ -41,6 +41,7 @@ impl<'a> Cursor<'a> {
     }
 
     /// A second cursor at the same place.
+    #[inline(always)]
     pub fn copy(&self) -> Cursor<'a>
         ensures same { result ≡ self.now }
         ensures small { self.now.at + length self.now.left < 2 ^ 64 }
@@ -210,13 +211,32 @@ impl<'a> Cursor<'a> {
     fn next_node(&mut self) -> Result<u64, FormatFault>
         ensures { NodePasses result self.new (node_from self.old) }
     {
-        match self.short_str() {
-            Some((_, len)) => {
-                self.pass(len);
-                Ok(0)
-            }
-            None => self.next_other_node(),
+        if let Some((_, len)) = self.short_str() {
+            self.pass(len);
+            return Ok(0);
         }
+        if let Some((len, parts)) = self.common_node() {
+            self.pass(len);
+            return Ok(parts);
+        }
+        self.next_other_node()
+    }
+
+    // How many bytes the head and the payload of the next value take and how many values are in it,
+    // where its head is of a common form and its payload is there.
+    #[inline(always)]
+    #[tactic(auto, using(crate::proofs::StrLemmas::sized_node))]
+    fn common_node(&self) -> Option<(usize, u64)>
+        ensures exact { IfSome result
+            (λ n. NodePasses (Ok n.1) (behind n.0 self.now) (node_from self.now)) }
+        ensures within { IfSome result (λ n. n.0 ≤ length self.now.left) }
+    {
+        let rest = self.rest();
+        let (len, parts) = common_node_in(rest)?;
+        if rest.len() < len {
+            return None;
+        }
+        Some((len, parts))
     }
 
     // The same of any value.
@@ -245,6 +265,7 @@ impl<'a> Cursor<'a> {
     }
 
     // So many bytes.
+    #[inline(always)]
     #[tactic(auto, unfolding(crate::specs::Reading::bytes_from))]
     fn next_bytes(&mut self, len: usize) -> Result<&'a [u8], FormatFault>
         ensures { Steps (λ taken. taken.now) self.old self.new result (bytes_from len self.old) }
@@ -259,6 +280,7 @@ impl<'a> Cursor<'a> {
     }
 
     // The fault of a head that begins here.
+    #[inline(always)]
     fn head_fault(&self, kind: FaultKind) -> FormatFault
         ensures { result ≡ head_fault kind self.now }
     {
@@ -275,6 +297,7 @@ impl<'a> Cursor<'a> {
     }
 
     // The fault that the bytes end too early.
+    #[inline(always)]
     fn short(&self) -> FormatFault
         ensures { result ≡ short self.now }
     {

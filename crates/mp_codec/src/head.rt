@@ -1,8 +1,8 @@
 //! What a value begins with: its first byte, and the bytes behind it that belong to its head.
 
-ghost use Rattle.std.specs.Prelude.{◌≡◌, ◌≤◌, ◌<◌, ◌^◌, ◌+◌, pos, true, length, Ok, IfOk, IfSome};
+ghost use Rattle.std.specs.Prelude.{◌≡◌, ◌≤◌, ◌<◌, ◌^◌, ◌+◌, pos, true, length, Ok, Some, IfOk, IfSome};
 ghost use Rattle.mp_codec.specs.declared.head.Head.{Head};
-ghost use Rattle.mp_codec.specs.Format.{big_endian, form, is_width, is_readable, is_readable_form, head_behind, head_of_form, head_at, part_count, payload_len};
+ghost use Rattle.mp_codec.specs.Format.{big_endian, form, is_width, is_readable, is_readable_form, head_behind, head_of_form, head_at, node_size, part_count, payload_len};
 
 use crate::fault::FaultKind;
 
@@ -106,6 +106,7 @@ fn head_of(behind: Behind, bytes: &[u8]) -> Head
 }
 
 // The head at the front of some bytes, and how many bytes it takes.
+#[inline(always)]
 #[tactic(auto, unfolding(crate::specs::Format::head_at))]
 pub(crate) fn head_in(bytes: &[u8]) -> Result<(Head, usize), FaultKind>
     ensures exact { result ≡ head_at bytes.now }
@@ -114,6 +115,26 @@ pub(crate) fn head_in(bytes: &[u8]) -> Result<(Head, usize), FaultKind>
     match bytes {
         [first, rest @ ..] => head_by_first_byte(*first, rest),
         [] => Err(FaultKind::Short),
+    }
+}
+
+// How many bytes the head at the front and its payload claim and how many values are in it, where the
+// head is of a form that most records have: a small number, a short map or list, a digest, or a number
+// without a sign. The forms are few, so that they are part of each loop over heads, and no value of
+// `Head` has to be made of them.
+#[inline(always)]
+#[tactic(auto, unfolding(crate::specs::Format::form, crate::specs::Format::head_at))]
+pub(crate) fn common_node_in(bytes: &[u8]) -> Option<(usize, u64)>
+    ensures { IfSome result (λ node. node_size (head_at bytes.now) ≡ Some node) }
+{
+    match bytes {
+        [0x00..=0x7f, ..] => Some((1, 0)),
+        [first @ 0x80..=0x8f, ..] => Some((1, 2 * u64::from(*first - 0x80))),
+        [first @ 0x90..=0x9f, ..] => Some((1, u64::from(*first - 0x90))),
+        [0xc4, len, ..] => Some((2 + usize::from(*len), 0)),
+        [0xce, _, _, _, _, ..] => Some((5, 0)),
+        [0xcf, _, _, _, _, _, _, _, _, ..] => Some((9, 0)),
+        _ => None,
     }
 }
 
@@ -153,6 +174,7 @@ pub(crate) fn unsigned_in(bytes: &[u8]) -> Option<(u64, usize)>
 
 // The head that begins with this byte, where these bytes stand behind it, and how many bytes it
 // takes. Each form is a constant where it is read, so that code is made for it alone.
+#[inline(always)]
 #[tactic(auto, unfolding(crate::specs::Format::form))]
 fn head_by_first_byte(first: u8, rest: &[u8]) -> Result<(Head, usize), FaultKind>
     ensures exact { result ≡ head_of_form (form first) rest.now }
@@ -222,6 +244,7 @@ impl Form {
 
 impl Head {
     // How many bytes of payload the head claims.
+    #[inline(always)]
     pub(crate) fn payload_len(self) -> u32
         ensures { result ≡ payload_len self }
     {
@@ -237,6 +260,7 @@ impl Head {
     }
 
     // How many values the head claims.
+    #[inline(always)]
     pub(crate) fn part_count(self) -> u64
         ensures { result ≡ part_count self }
     {

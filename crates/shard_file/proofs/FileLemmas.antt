@@ -10,22 +10,18 @@ use Rattle.mp_codec.specs.Spelling.{Lies}
 use Rattle.mp_codec.specs.Fault.{Faults, no_fault, fault_here, TextFault, PairsFault}
 use Rattle.mp_codec.specs.Keys.{has_bytes, is_key, value_at, has_key}
 use Rattle.mp_codec.specs.Maps.{text_from}
+use Rattle.mp_codec.proofs.NameMapLemmas.{AllStrs, IsName, NameFault, map_more, name_judged, names_behind, strs_more}
 use Rattle.mp_codec.proofs.JudgingLemmas.{StandBehind, JudgesOne}
-use Rattle.mp_codec.proofs.LeafLemmas.{IsText, text_judged, text_behind, text_clean}
-use Rattle.mp_codec.proofs.MapLemmas.{mapped, guarded, JudgesEnd, pairs_behind, entries_judged, map_judged, map_behind}
+use Rattle.mp_codec.proofs.LeafLemmas.{IsText}
+use Rattle.mp_codec.proofs.MapLemmas.{mapped, JudgesEnd, pairs_behind, entries_judged, map_judged, map_behind}
 use Rattle.conda_record.specs.Record.{Fields, RecordFault}
 use Rattle.conda_record.specs.Reading.{record_from}
 use Rattle.conda_record.proofs.RecordLemmas.{IsRecord, record_judged, record_behind}
-use Rattle.shard_file.specs.Rows.{Row, row_of, RepeatedFile, again, files_rules, FilesFault}
-use Rattle.shard_file.specs.Names.{new_name_from}
+use Rattle.shard_file.specs.Rows.{Row, row_of, files_rules, FilesFault}
+use Rattle.mp_codec.specs.Names.{new_name_from}
 use Rattle.shard_file.specs.Reading.{has_file, file_key_from, file_value_from, file_end_from, files_after, files_from}
 
 -- ---- what is known of the files in front
-
--- each key of the pairs is a str
-abbrev pub AllStrs : Pairs → Type 0
-AllStrs [] = Unit {0}
-AllStrs (p ∷ ps) = ((name : List ℕ) × (str_of p.0 ≡ Some name)) × AllStrs ps
 
 -- the rows are those of the pairs in front
 pub record Knows (conda : Bool) (rows : List Row) (front : Pairs) : Type 0 where
@@ -44,68 +40,13 @@ met_is conda (p ∷ ps) name strs =
     or_is true = refl
     or_is false = refl
 
-strs_more : (front : Pairs) (key v : Value) (name : List ℕ) → AllStrs front → str_of key ≡ Some name → AllStrs (front ++ (key, v) ∷ [])
-strs_more [] key v name strs e = ((name, e), tt)
-strs_more (p ∷ ps) key v name strs e = (strs.0, strs_more ps key v name strs.1 e)
-
-map_more : (conda : Bool) (front : Pairs) (p : Value × Value) → map (row_of conda) (front ++ p ∷ []) ≡ map (row_of conda) front ++ row_of conda p ∷ []
-map_more conda [] p = refl
-map_more conda (q ∷ qs) p = ap (λ (rows : List Row). row_of conda q ∷ rows) (map_more conda qs p)
-
 -- ---- the readers of a file name, of its record, and of the end
 
--- the key is this file name, which is new
-abbrev pub IsFile : Bool → List Row → Pairs → List ℕ → Value → Type 0
-IsFile conda rows front name v = str_of v ≡ Some name
-
--- a file name that stands again, taken apart
-record AgainFile (front : Pairs) (here : Position) (f : FormatFault) : Type 0 where
-  key : Value
-  there : Position
-  name : List ℕ
-  lies : Lies key here there
-  str : str_of key ≡ Some name
-  utf8 : is_utf8 name ≡ true
-  met : has_key name front ≡ true
-  is : f ≡ fault_here kind.Repeated here
-
-again_of : {front : Pairs} {here : Position} {f : FormatFault} → RepeatedFile front here f → AgainFile front here f
-again_of (again {there = there} {key = key} {name = name} l s u m) = record { key = key; there = there; name = name; lies = l; str = s; utf8 = u; met = m; is = refl }
-
--- what may be wrong with a file name
-abbrev pub NameFault : Pairs → Faults
-NameFault front here f = TextFault here f ⊎ RepeatedFile front here f
-
-names_behind : (front : Pairs) → StandBehind (NameFault front)
-names_behind front here f (inl p) = text_behind here f p
-names_behind front here f (inr p) = let a : AgainFile front here f = again_of p in let at : f.at ≡ here.at = ap (λ (f : FormatFault). f.at) a.is in omega arith
-
-keys_judged : (conda : Bool) (rows : List Row) (front : Pairs) (here : Position) → Knows conda rows front → JudgesOne (NameFault front) (IsFile conda rows front) here (file_key_from rows here)
-unfolding new_name_from
+keys_judged : (conda : Bool) (rows : List Row) (front : Pairs) (here : Position) → Knows conda rows front → JudgesOne (NameFault front) IsName here (file_key_from rows here)
 keys_judged conda rows front here knows =
-    guarded TextFault (NameFault front) IsText (IsFile conda rows front) kind.Repeated here (λ name. has_file name rows) (λ name. name)
-    (λ f p. inl p)
-    (λ name v there l is bad. inr (again l is.0 is.1 (sym (met name) ∙ bad)))
-    (λ f. elim [
-      | inl p ↦ inl p
-      | inr p ↦
-          let a : AgainFile front here f = again_of p in
-          inr (record {
-            value = a.key;
-            there = a.there;
-            lies = a.lies;
-            is = a.is;
-            bad_value = λ name is. let both : ◌≡◌ {A = Option (List ℕ)} (Some name) (Some a.name) = sym is.0 ∙ a.str in let same : name ≡ a.name = cc in met name ∙ ap (λ (n : List ℕ). has_key n front) same ∙ a.met;
-            clean = λ g q. text_clean a.key a.name here a.there a.lies a.str a.utf8 g q;
-          })
-    ])
-    (λ name v is good. is.0)
-    (text_from here) (text_judged here)
-  where
-    met : (name : List ℕ) → has_file name rows ≡ has_key name front
-    met name = ap (λ (rows : List Row). has_file name rows) knows.are ∙ met_is conda front name knows.strs
+    name_judged (λ name. has_file name rows) front here (λ name. ap (λ (rows : List Row). has_file name rows) knows.are ∙ met_is conda front name knows.strs)
 
-values_judged : (conda : Bool) (rows : List Row) (front : Pairs) (name : List ℕ) (key : Value) (here : Position) → Knows conda rows front → IsFile conda rows front name key
+values_judged : (conda : Bool) (rows : List Row) (front : Pairs) (name : List ℕ) (key : Value) (here : Position) → Knows conda rows front → IsName name key
     → JudgesOne RecordFault (λ t v. Knows conda t (front ++ (key, v) ∷ [])) here (file_value_from conda rows name here)
 unfolding file_value_from
 values_judged conda rows front name key here knows is =
@@ -114,7 +55,7 @@ values_judged conda rows front name key here knows is =
       are =
           let file : unwrap_or (str_of key) [] ≡ name = ap (λ (o : Option (List ℕ)). unwrap_or o []) is in
           let row : ◌≡◌ {A = Row} (record { file = name; conda = conda; fields = r }) (row_of conda (key, v)) = λ i. record { file = sym file i; conda = conda; fields = says i } in
-          ap (λ (rows : List Row). rows ++ record { file = name; conda = conda; fields = r } ∷ []) knows.are ∙ ap (λ (row : Row). map (row_of conda) front ++ row ∷ []) row ∙ sym (map_more conda front (key, v));
+          ap (λ (rows : List Row). rows ++ record { file = name; conda = conda; fields = r } ∷ []) knows.are ∙ ap (λ (row : Row). map (row_of conda) front ++ row ∷ []) row ∙ sym (map_more (row_of conda) front (key, v));
       strs = strs_more front key v name knows.strs is;
     })
     (record_judged here)
@@ -127,7 +68,7 @@ end_judged : (conda : Bool) (rows : List Row) (front : Pairs) (here : Position) 
 end_judged conda rows front here knows = record { place = refl; good = knows.are; none = λ g p. p }
 
 files_pairs_behind : (conda : Bool) (front : Pairs) (n : ℕ) → StandBehind (PairsFault files_rules front n)
-files_pairs_behind conda = pairs_behind files_rules (Knows conda) (IsFile conda) (Final conda) file_key_from (file_value_from conda) file_end_from
+files_pairs_behind conda = pairs_behind files_rules (Knows conda) (λ rows front. IsName) (Final conda) file_key_from (file_value_from conda) file_end_from
     names_behind (λ key. record_behind) (λ front here f p. absurd p) (keys_judged conda) (values_judged conda) (end_judged conda)
 
 -- the rows are those of the value's pairs
@@ -138,7 +79,7 @@ pub files_judged : (conda : Bool) (here : Position) → JudgesOne FilesFault (Ar
 unfolding files_from
 files_judged conda here =
     map_judged files_rules (Final conda) (λ n there. files_after conda n [] there) (λ n. files_pairs_behind conda [] n)
-    (λ n there. entries_judged files_rules (Knows conda) (IsFile conda) (Final conda) file_key_from (file_value_from conda) file_end_from
+    (λ n there. entries_judged files_rules (Knows conda) (λ rows front. IsName) (Final conda) file_key_from (file_value_from conda) file_end_from
     names_behind (λ key. record_behind) (λ front here f p. absurd p) (keys_judged conda) (values_judged conda) (end_judged conda)
     n [] [] there (record { are = refl; strs = tt }))
     here

@@ -14,7 +14,7 @@ use Rattle.mp_codec.proofs.EntryLemmas.{goes_on, key_stops, value_stops, is_done
 use Rattle.conda_record.specs.Record.{Fields}
 use Rattle.conda_record.specs.Reading.{record_from}
 use Rattle.shard_file.specs.Rows.{Row}
-use Rattle.shard_file.specs.Names.{new_name_from}
+use Rattle.mp_codec.specs.Names.{new_name_from}
 use Rattle.shard_file.specs.Reading.{has_file, file_key_from, file_value_from, file_end_from, files_after}
 
 -- tests that agree give the same reading of a name

@@ -31,7 +31,7 @@ use Rattle.conda_record.specs.Writing.{record_bytes, IsReadAgain}
 use Rattle.conda_record.proofs.RecordLemmas.{record_at_read}
 use Rattle.conda_record.proofs.WrittenLemmas.{read_again as record_again, tight_record}
 use Rattle.shard_file.specs.Rows.{Row, shard_keys, rows_of, file_lt, ShardOf}
-use Rattle.shard_file.specs.Names.{new_name_from}
+use Rattle.mp_codec.specs.Names.{new_name_from}
 use Rattle.shard_file.specs.Reading.{has_file, file_key_from, file_value_from, files_after, files_from, member_from, shard_from, rows_from}
 use Rattle.shard_file.specs.Writing.{stands_in, rows_under, file_bytes, files_bytes, shard_bytes, row_cmp, IsWritableRow, AreWritable, IsReadableRow, IsRow}
 use Rattle.mp_codec.proofs.SortingLemmas.{one_sort}

@@ -37,7 +37,3 @@ is_among names name = list_any (λ k. bytes_eq k.now name) names
 -- this name was met: it is one of those that rose, or of the others
 abbrev pub has_name : Names → List ℕ → Bool
 has_name names name = is_among names.rising.items name || contains_by (λ k. slice_cmp nat_cmp name k.now) names.others
-
--- the text that stands here, which is none of the names that were met
-unfoldable pub new_name_from : (List ℕ → Bool) → Position → Read (List ℕ)
-new_name_from met here = text_from here >>= λ t. if met t.0 then Err (fault_here kind.Repeated here) else Ok (t.0, t.1)

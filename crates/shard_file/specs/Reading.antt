@@ -9,7 +9,7 @@ use Rattle.mp_codec.specs.Maps.{Read, entries_from, map_from, skipped, unread, k
 use Rattle.conda_record.specs.Reading.{record_from}
 use Rattle.gateway_words.specs.Sorting.{sorted_by}
 use Rattle.shard_file.specs.Rows.{Row, shard_keys, file_lt}
-use Rattle.shard_file.specs.Names.{new_name_from}
+use Rattle.mp_codec.specs.Names.{new_name_from}
 
 -- ---- the files of one map
 

@@ -10,6 +10,7 @@ use Rattle.mp_codec.specs.declared.fault.FaultKind.TheVariants as kind
 use Rattle.mp_codec.specs.Value.{Value, Pairs, pairs_of, str_of}
 use Rattle.mp_codec.specs.Spelling.{Spells, Lies}
 use Rattle.mp_codec.specs.Fault.{Faults, no_fault, fault_here, TextFault, MapRules, MapFault, BytesFault}
+use Rattle.mp_codec.specs.Names.{names_rules}
 use Rattle.mp_codec.specs.Keys.{is_one_of, value_at, has_key, RepeatedKey}
 use Rattle.conda_record.specs.Record.{Fields, fields_of, RecordFault}
 
@@ -52,18 +53,9 @@ file_lt r s = is_lt (slice_cmp nat_cmp r.file s.file)
 
 -- ---- what may be wrong with a shard
 
--- a file name, which is text, that stands in front already
-pub data RepeatedFile (front : Pairs) : Position → FormatFault → Type 0 where
-  again : {here there : Position} {key : Value} {name : List ℕ} → Lies key here there → str_of key ≡ Some name → is_utf8 name ≡ true
-      → has_key name front ≡ true → RepeatedFile front here (fault_here kind.Repeated here)
-
 -- files are a map from different texts to records
 abbrev pub files_rules : MapRules
-files_rules = record {
-  key = λ front here f. TextFault here f ⊎ RepeatedFile front here f;
-  value = λ key. RecordFault;
-  end = λ front. no_fault;
-}
+files_rules = names_rules RecordFault
 
 -- what may be wrong with a map of files
 abbrev pub FilesFault : Faults

@@ -6,7 +6,8 @@ ghost use Rattle.gateway_words.specs.Reading.{Gives};
 ghost use Rattle.conda_record.specs.Reading.{fault_of};
 ghost use Rattle.mp_codec.specs.Span.{IsIn, span_before};
 ghost use Rattle.shard_file.specs.Spans.{rows_at, AreNamed};
-ghost use Rattle.shard_file.specs.Names.{has_name, new_name_from, AreRising};
+ghost use Rattle.shard_file.specs.Names.{has_name, AreRising};
+ghost use Rattle.mp_codec.specs.Names.{new_name_from};
 ghost use Rattle.shard_file.specs.Reading.{files_after, files_from};
 
 use crate::names::Names;
@@ -58,7 +59,7 @@ fn rows_of_files(
 }
 
 // The text that stands at the cursor, which is none of the names so far, and where it stands.
-#[tactic(auto, unfolding(crate::specs::Names::new_name_from))]
+#[tactic(auto, unfolding(mp_codec::specs::Names::new_name_from))]
 fn new_name<'a>(
     cur: &mut Cursor<'a>,
     names: &mut Names<'a>,

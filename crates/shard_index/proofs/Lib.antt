@@ -1,5 +1,4 @@
 pub mod RefusalLemmas
-pub mod NameLemmas
 pub mod SortLemmas
 pub mod NamesLoop
 pub mod DigestLemmas
@@ -8,5 +7,4 @@ pub mod InfoLemmas
 pub mod ListedLemmas
 pub mod IndexLemmas
 pub mod LookupLemmas
-pub mod WritingLoop
 pub mod WrittenLemmas

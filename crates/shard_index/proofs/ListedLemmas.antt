@@ -11,21 +11,17 @@ use Rattle.mp_codec.specs.Spelling.{Lies}
 use Rattle.mp_codec.specs.Fault.{Faults, no_fault, fault_here, TextFault, PairsFault}
 use Rattle.mp_codec.specs.Keys.{has_bytes, is_key, value_at, has_key}
 use Rattle.mp_codec.specs.Maps.{text_from}
+use Rattle.mp_codec.proofs.NameMapLemmas.{AllStrs, IsName, NameFault, map_more, name_judged, names_behind, strs_more}
 use Rattle.mp_codec.proofs.JudgingLemmas.{StandBehind, JudgesOne}
-use Rattle.mp_codec.proofs.LeafLemmas.{IsText, text_judged, text_behind, text_clean}
-use Rattle.mp_codec.proofs.MapLemmas.{mapped, guarded, JudgesEnd, pairs_behind, entries_judged, map_judged, map_behind}
+use Rattle.mp_codec.proofs.LeafLemmas.{IsText}
+use Rattle.mp_codec.proofs.MapLemmas.{mapped, JudgesEnd, pairs_behind, entries_judged, map_judged, map_behind}
 use Rattle.shard_index.specs.Digests.{digest_of, DigestFault, digest_from}
-use Rattle.shard_index.specs.Index.{Listed, listed_of, RepeatedName, again, shards_rules, ShardsFault}
-use Rattle.shard_index.specs.Names.{new_name_from}
+use Rattle.shard_index.specs.Index.{Listed, listed_of, shards_rules, ShardsFault}
+use Rattle.mp_codec.specs.Names.{new_name_from}
 use Rattle.shard_index.specs.Reading.{is_listed, name_from, listed_value_from, listed_end_from, listed_after, listed_from}
 use Rattle.shard_index.proofs.DigestLemmas.{IsDigest, digest_judged, digest_stands}
 
 -- ---- what is known of the names in front
-
--- each key of the pairs is a str
-abbrev pub AllStrs : Pairs → Type 0
-AllStrs [] = Unit {0}
-AllStrs (p ∷ ps) = ((name : List ℕ) × (str_of p.0 ≡ Some name)) × AllStrs ps
 
 -- what is listed are the pairs in front
 pub record Knows (listed : List Listed) (front : Pairs) : Type 0 where
@@ -44,68 +40,13 @@ met_is (p ∷ ps) name strs =
     or_is true = refl
     or_is false = refl
 
-strs_more : (front : Pairs) (key v : Value) (name : List ℕ) → AllStrs front → str_of key ≡ Some name → AllStrs (front ++ (key, v) ∷ [])
-strs_more [] key v name strs e = ((name, e), tt)
-strs_more (p ∷ ps) key v name strs e = (strs.0, strs_more ps key v name strs.1 e)
-
-map_more : (front : Pairs) (p : Value × Value) → map listed_of (front ++ p ∷ []) ≡ map listed_of front ++ listed_of p ∷ []
-map_more [] p = refl
-map_more (q ∷ qs) p = ap (λ (xs : List Listed). listed_of q ∷ xs) (map_more qs p)
-
 -- ---- the readers of a name, of its digest, and of the end
 
--- the key is this name
-abbrev pub IsName : List Listed → Pairs → List ℕ → Value → Type 0
-IsName listed front name v = str_of v ≡ Some name
-
--- a name that stands again, taken apart
-record AgainName (front : Pairs) (here : Position) (f : FormatFault) : Type 0 where
-  key : Value
-  there : Position
-  name : List ℕ
-  lies : Lies key here there
-  str : str_of key ≡ Some name
-  utf8 : is_utf8 name ≡ true
-  met : has_key name front ≡ true
-  is : f ≡ fault_here kind.Repeated here
-
-again_of : {front : Pairs} {here : Position} {f : FormatFault} → RepeatedName front here f → AgainName front here f
-again_of (again {there = there} {key = key} {name = name} l s u m) = record { key = key; there = there; name = name; lies = l; str = s; utf8 = u; met = m; is = refl }
-
--- what may be wrong with a name
-abbrev pub NameFault : Pairs → Faults
-NameFault front here f = TextFault here f ⊎ RepeatedName front here f
-
-names_behind : (front : Pairs) → StandBehind (NameFault front)
-names_behind front here f (inl p) = text_behind here f p
-names_behind front here f (inr p) = let a : AgainName front here f = again_of p in let at : f.at ≡ here.at = ap (λ (f : FormatFault). f.at) a.is in omega arith
-
-keys_judged : (listed : List Listed) (front : Pairs) (here : Position) → Knows listed front → JudgesOne (NameFault front) (IsName listed front) here (name_from listed here)
-unfolding new_name_from
+keys_judged : (listed : List Listed) (front : Pairs) (here : Position) → Knows listed front → JudgesOne (NameFault front) IsName here (name_from listed here)
 keys_judged listed front here knows =
-    guarded TextFault (NameFault front) IsText (IsName listed front) kind.Repeated here (λ name. is_listed name listed) (λ name. name)
-    (λ f p. inl p)
-    (λ name v there l is bad. inr (again l is.0 is.1 (sym (met name) ∙ bad)))
-    (λ f. elim [
-      | inl p ↦ inl p
-      | inr p ↦
-          let a : AgainName front here f = again_of p in
-          inr (record {
-            value = a.key;
-            there = a.there;
-            lies = a.lies;
-            is = a.is;
-            bad_value = λ name is. let both : ◌≡◌ {A = Option (List ℕ)} (Some name) (Some a.name) = sym is.0 ∙ a.str in let same : name ≡ a.name = cc in met name ∙ ap (λ (n : List ℕ). has_key n front) same ∙ a.met;
-            clean = λ g q. text_clean a.key a.name here a.there a.lies a.str a.utf8 g q;
-          })
-    ])
-    (λ name v is good. is.0)
-    (text_from here) (text_judged here)
-  where
-    met : (name : List ℕ) → is_listed name listed ≡ has_key name front
-    met name = ap (λ (xs : List Listed). is_listed name xs) knows.are ∙ met_is front name knows.strs
+    name_judged (λ name. is_listed name listed) front here (λ name. ap (λ (xs : List Listed). is_listed name xs) knows.are ∙ met_is front name knows.strs)
 
-values_judged : (listed : List Listed) (front : Pairs) (name : List ℕ) (key : Value) (here : Position) → Knows listed front → IsName listed front name key
+values_judged : (listed : List Listed) (front : Pairs) (name : List ℕ) (key : Value) (here : Position) → Knows listed front → IsName name key
     → JudgesOne DigestFault (λ t v. Knows t (front ++ (key, v) ∷ [])) here (listed_value_from listed name here)
 unfolding listed_value_from
 values_judged listed front name key here knows is =
@@ -115,7 +56,7 @@ values_judged listed front name key here knows is =
           let str : unwrap_or (str_of key) [] ≡ name = ap (λ (o : Option (List ℕ)). unwrap_or o []) is in
           let digest : unwrap_or (digest_of v) (record { 0 = [] }) ≡ d = ap (λ (o : Option Digest). unwrap_or o (record { 0 = [] })) says in
           let same : ◌≡◌ {A = Listed} (record { name = name; digest = d }) (listed_of (key, v)) = λ i. record { name = sym str i; digest = sym digest i } in
-          ap (λ (xs : List Listed). xs ++ record { name = name; digest = d } ∷ []) knows.are ∙ ap (λ (x : Listed). map listed_of front ++ x ∷ []) same ∙ sym (map_more front (key, v));
+          ap (λ (xs : List Listed). xs ++ record { name = name; digest = d } ∷ []) knows.are ∙ ap (λ (x : Listed). map listed_of front ++ x ∷ []) same ∙ sym (map_more listed_of front (key, v));
       strs = strs_more front key v name knows.strs is;
     })
     (digest_judged here)
@@ -128,7 +69,7 @@ end_judged : (listed : List Listed) (front : Pairs) (here : Position) → Knows 
 end_judged listed front here knows = record { place = refl; good = knows.are; none = λ g p. p }
 
 names_pairs_behind : (front : Pairs) (n : ℕ) → StandBehind (PairsFault shards_rules front n)
-names_pairs_behind = pairs_behind shards_rules Knows IsName Final name_from listed_value_from listed_end_from
+names_pairs_behind = pairs_behind shards_rules Knows (λ listed front. IsName) Final name_from listed_value_from listed_end_from
     names_behind (λ key. digest_stands) (λ front here f p. absurd p) keys_judged values_judged end_judged
 
 -- what is listed is what the value's pairs list
@@ -139,7 +80,7 @@ pub listed_judged : (here : Position) → JudgesOne ShardsFault AreListed here (
 unfolding listed_from
 listed_judged here =
     map_judged shards_rules Final (λ n there. listed_after n [] there) (λ n. names_pairs_behind [] n)
-    (λ n there. entries_judged shards_rules Knows IsName Final name_from listed_value_from listed_end_from
+    (λ n there. entries_judged shards_rules Knows (λ listed front. IsName) Final name_from listed_value_from listed_end_from
     names_behind (λ key. digest_stands) (λ front here f p. absurd p) keys_judged values_judged end_judged
     n [] [] there (record { are = refl; strs = tt }))
     here

@@ -15,7 +15,7 @@ use Rattle.mp_codec.proofs.BindLemmas.{bind_ok, bind_err}
 use Rattle.mp_codec.proofs.EntryLemmas.{goes_on, key_stops, value_stops, is_done}
 use Rattle.shard_index.specs.Digests.{digest_from}
 use Rattle.shard_index.specs.Index.{Listed}
-use Rattle.shard_index.specs.Names.{new_name_from}
+use Rattle.mp_codec.specs.Names.{new_name_from}
 use Rattle.shard_index.specs.Reading.{is_listed, AreDistinct, name_from, listed_value_from, listed_end_from, listed_after}
 
 -- tests that agree give the same reading of a name

@@ -30,7 +30,7 @@ use Rattle.shard_index.specs.Digests.{digest_by_head, digest_or_wrong, digest_be
 use Rattle.shard_index.specs.Version.{version_behind, version_from}
 use Rattle.shard_index.specs.Info.{Info, info_keys, default_base, default_shards_base, text_in, optional_text_from, info_datum_from, info_read, info_from}
 use Rattle.shard_index.specs.Index.{Listed, Contents, name_lt, version_key, info_key, shards_key, index_keys, IndexOf}
-use Rattle.shard_index.specs.Names.{new_name_from}
+use Rattle.mp_codec.specs.Names.{new_name_from}
 use Rattle.shard_index.specs.Reading.{is_listed, AreDistinct, name_from, listed_value_from, listed_after, listed_from, Datum, Shards, Version, Infos, member_from, index_end_from, index_pairs_from, index_from, contents_from}
 use Rattle.shard_index.specs.Writing.{entry_bytes, listed_bytes, info_bytes, written_keys, index_bytes, IsShort, IsWritable, IsEntry, contents_written, text_pair, version_pair, bases_pairs, info_pair, shards_pair}
 use Rattle.shard_index.proofs.InfoLemmas.{differ, info_is}

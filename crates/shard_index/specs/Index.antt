@@ -11,6 +11,7 @@ use Rattle.mp_codec.specs.declared.fault.FaultKind.TheVariants as kind
 use Rattle.mp_codec.specs.Value.{Value, Pairs, pairs_of, str_of}
 use Rattle.mp_codec.specs.Spelling.{Spells, Lies}
 use Rattle.mp_codec.specs.Fault.{Faults, no_fault, fault_here, TextFault, MapRules, MapFault, BytesFault}
+use Rattle.mp_codec.specs.Names.{names_rules}
 use Rattle.mp_codec.specs.Keys.{is_key, value_at, has_key, RepeatedKey, MissingKey}
 use Rattle.shard_index.specs.declared.writing.IndexRow.{IndexRow}
 use Rattle.shard_index.specs.Digests.{digest_of, DigestFault}
@@ -64,18 +65,9 @@ listed_in None = []
 
 -- ---- what may be wrong with an index
 
--- a name, which is text, that stands in front already
-pub data RepeatedName (front : Pairs) : Position → FormatFault → Type 0 where
-  again : {here there : Position} {key : Value} {name : List ℕ} → Lies key here there → str_of key ≡ Some name → is_utf8 name ≡ true
-      → has_key name front ≡ true → RepeatedName front here (fault_here kind.Repeated here)
-
 -- the map from names to digests has different texts for keys
 abbrev pub shards_rules : MapRules
-shards_rules = record {
-  key = λ front here f. TextFault here f ⊎ RepeatedName front here f;
-  value = λ key. DigestFault;
-  end = λ front. no_fault;
-}
+shards_rules = names_rules DigestFault
 
 -- what may be wrong with the map from names to digests
 abbrev pub ShardsFault : Faults

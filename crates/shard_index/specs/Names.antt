@@ -13,7 +13,3 @@ use Rattle.mp_codec.specs.Maps.{Read, text_from}
 -- the set has this name
 abbrev pub has_name : BTreeSet (Bor (List ℕ)) → List ℕ → Bool
 has_name names name = contains_by (λ k. slice_cmp nat_cmp name k.now) names
-
--- the text that stands here, which is none of the names that were met
-unfoldable pub new_name_from : (List ℕ → Bool) → Position → Read (List ℕ)
-new_name_from met here = text_from here >>= λ t. if met t.0 then Err (fault_here kind.Repeated here) else Ok (t.0, t.1)

@@ -11,7 +11,7 @@ use Rattle.shard_index.specs.Version.{version_from}
 use Rattle.shard_index.specs.Info.{Info, info_in, info_from}
 use Rattle.gateway_words.specs.Sorting.{sorted_by}
 use Rattle.shard_index.specs.Index.{Listed, Contents, index_keys, name_lt}
-use Rattle.shard_index.specs.Names.{new_name_from}
+use Rattle.mp_codec.specs.Names.{new_name_from}
 
 -- ---- the map from names to digests
 

@@ -6,7 +6,8 @@ ghost use Rattle.std.specs.Str.{bytes_eq};
 ghost use Rattle.gateway_words.specs.Reading.{Gives};
 ghost use Rattle.gateway_words.specs.Sorting.{sorted_by};
 ghost use Rattle.shard_index.specs.Index.{digest_at, name_lt};
-ghost use Rattle.shard_index.specs.Names.{has_name, new_name_from};
+ghost use Rattle.shard_index.specs.Names.{has_name};
+ghost use Rattle.mp_codec.specs.Names.{new_name_from};
 ghost use Rattle.shard_index.specs.Reading.{listed_after, listed_from};
 ghost use Rattle.shard_index.specs.Seen.{fault_of};
 
@@ -115,7 +116,7 @@ fn names_and_digests(
 }
 
 // The text that stands at the cursor, which is none of the names so far.
-#[tactic(auto, unfolding(crate::specs::Names::new_name_from))]
+#[tactic(auto, unfolding(mp_codec::specs::Names::new_name_from))]
 fn new_name<'a>(
     cur: &mut Cursor<'a>,
     names: &mut BTreeSet<&'a str>,

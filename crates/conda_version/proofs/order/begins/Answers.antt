@@ -1,7 +1,7 @@
 use Rattle.std.proofs.Common.{◌≡◌, sym, ◌∙◌, ap, arith, true, false, length}
 use Rattle.std.specs.Prelude.{◌&&◌, not}
 use Rattle.std.specs.Cmp.{first_so, second_so}
-use Rattle.conda_version.specs.Text.{is_nil}
+use Rattle.byte_text.specs.Text.{is_nil}
 use Rattle.conda_version.specs.Version.{lists}
 use Rattle.conda_version.specs.Grammar.{is_narrow}
 use Rattle.conda_version.specs.Order.{lists_begin}

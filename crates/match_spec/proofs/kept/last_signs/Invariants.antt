@@ -1,5 +1,5 @@
 use Rattle.std.proofs.Common.{◌≡◌, ◌+◌, ◌≤◌, length, reverse}
-use Rattle.conda_version.specs.Leaf.{sign_len}
+use Rattle.byte_text.specs.Text.{sign_len}
 use Rattle.match_spec.proofs.kept.last_signs.Given as goal
 
 abbrev pub invariant-bytes : goal.invariant-bytes

@@ -1,7 +1,7 @@
 use Rattle.std.proofs.Common.{◌∙◌, ap, ℕ, List}
 use Rattle.std.specs.List.{list_any}
 use Rattle.std.specs.Borrow.{Bor}
-use Rattle.shard_index.proofs.NameLemmas.{is_name, has_more}
+use Rattle.mp_codec.proofs.NameSetLemmas.{is_name, has_more}
 use Rattle.shard_index.proofs.names.add.Goals as goal
 
 pub returns-clause-more : goal.returns-clause-more

@@ -1,7 +1,7 @@
 use Rattle.std.proofs.Common.{take}
 use Rattle.std.specs.List.{flat_map}
 use Rattle.shard_index.specs.Writing.{entry_bytes, IsEntry}
-use Rattle.shard_index.proofs.WritingLoop.{one_more, all_more, kept_before, on_err_too}
+use Rattle.mp_codec.proofs.AppendLemmas.{one_more, all_more, kept_before, on_err_too}
 use Rattle.shard_index.proofs.writing.put_entries.Goals as goal
 
 pub loop-row-preserved : goal.loop-row-preserved

@@ -1,7 +1,7 @@
 use Rattle.std.proofs.Common.{◌∙◌, ap, ◌++◌, ℕ, List}
 use Rattle.mp_codec.specs.Writing.{map_head}
 use Rattle.shard_index.specs.Writing.{version_pair, info_pair, shards_pair}
-use Rattle.shard_index.proofs.WritingLoop.{on_ok, on_err, on_err_too, both_written, kept_before}
+use Rattle.mp_codec.proofs.AppendLemmas.{on_ok, on_err, on_err_too, both_written, kept_before}
 use Rattle.shard_index.proofs.WrittenLemmas.{index_parts}
 use Rattle.shard_index.proofs.writing.put_index.Goals as goal
 

@@ -1,5 +1,5 @@
 use Rattle.std.proofs.lemmas.Str.{is_utf8-from_IsUtf8}
-use Rattle.shard_index.proofs.WritingLoop.{on_ok}
+use Rattle.mp_codec.proofs.AppendLemmas.{on_ok}
 use Rattle.shard_index.proofs.WrittenLemmas.{read_again}
 use Rattle.shard_index.proofs.writing.write_index.Goals as goal
 

@@ -1,6 +1,6 @@
 use Rattle.std.proofs.Common.{rules, ◌≡◌, ◌-◌, ℕ, length, false, sym, ◌∙◌, ap}
 use Rattle.std.specs.Prelude.{None}
-use Rattle.conda_version.specs.Text.{drop_blanks, is_nil, skip_blanks}
+use Rattle.byte_text.specs.Text.{drop_blanks, is_nil, skip_blanks}
 use Rattle.conda_version.specs.Grammar.{first_wrong, version_of, version_of_parts, version_of_trimmed}
 use Rattle.conda_version.proofs.StartLemmas.{is-nil-length}
 use Rattle.conda_version.proofs.VersionLemmas.{read-on}

@@ -2,7 +2,8 @@ use Rattle.std.proofs.Common.{sym, ◌∙◌, ap, subst, List, ℕ, ◌||◌}
 use Rattle.std.specs.List.{list_any}
 use Rattle.std.specs.Borrow.{Bor}
 use Rattle.shard_file.specs.Names.{is_among, IsRising}
-use Rattle.shard_file.proofs.NameLemmas.{is_name, new_behind, rising_more, more_others}
+use Rattle.shard_file.proofs.NameLemmas.{new_behind, rising_more, more_others}
+use Rattle.mp_codec.proofs.NameSetLemmas.{is_name}
 use Rattle.shard_file.proofs.names.Names.add.Goals as goal
 
 pub returns-then-is_behind-clause-new : goal.returns-then-is_behind-clause-new

@@ -7,7 +7,7 @@ use Rattle.std.proofs.lemmas.Map.Keys.{IsDistinct-IsPermutation}
 use Rattle.std.proofs.lemmas.Result.{on_ok_weaker}
 use Rattle.mp_codec.proofs.SortingLemmas.{is_sorted_by}
 use Rattle.shard_index.specs.Index.{Listed, name_lt}
-use Rattle.shard_index.proofs.NameLemmas.{bytes_eq-sym}
+use Rattle.mp_codec.proofs.NameSetLemmas.{bytes_eq-sym}
 use Rattle.shard_index.proofs.SortLemmas.{name_order}
 use Rattle.shard_index.proofs.listing.Listing.sort.Goals as goal
 

@@ -1,6 +1,6 @@
 use Rattle.std.proofs.Common.{refl, arith}
-use Rattle.http_head.proofs.NumberLemmas.{decimal-over}
-use Rattle.http_head.proofs.framing.decimal.Goals as goal
+use Rattle.byte_text.proofs.DecimalLemmas.{decimal-over}
+use Rattle.byte_text.proofs.decimal.Goals as goal
 
 pub returns-in_default-with_digit : goal.returns-in_default-with_digit
 returns-in_default-with_digit c =

@@ -1,6 +1,6 @@
 use Rattle.std.proofs.Common.{◌≡◌, ◌≤◌, length, reverse}
-use Rattle.conda_version.specs.Text.{skip_blanks}
-use Rattle.match_spec.proofs.text.drop_blanks.Given as goal
+use Rattle.byte_text.specs.Text.{skip_blanks}
+use Rattle.byte_text.proofs.drop_blanks.Given as goal
 
 abbrev pub invariant-loop-text : goal.invariant-loop-text
 invariant-loop-text l = record {

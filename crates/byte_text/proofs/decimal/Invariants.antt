@@ -1,6 +1,6 @@
 use Rattle.std.proofs.Common.{◌≡◌, ◌<◌, ◌^◌, length}
-use Rattle.http_head.specs.Framing.{decimal_from}
-use Rattle.http_head.proofs.framing.decimal.Given as goal
+use Rattle.byte_text.specs.Decimal.{decimal_from}
+use Rattle.byte_text.proofs.decimal.Given as goal
 
 abbrev pub invariant-digits : goal.invariant-digits
 invariant-digits l = record {

@@ -1,6 +1,6 @@
 use Rattle.std.proofs.Common.{◌≡◌, ◌≤◌, length, reverse}
-use Rattle.conda_version.specs.Leaf.{behind_first}
-use Rattle.match_spec.proofs.text.before_last.Given as goal
+use Rattle.byte_text.specs.Text.{behind_first}
+use Rattle.byte_text.proofs.before_last.Given as goal
 
 abbrev pub invariant-bytes : goal.invariant-bytes
 invariant-bytes l = record {

@@ -2,7 +2,7 @@
 use Rattle.std.proofs.Common.{◌≡◌, ◌+◌, ◌*◌, ◌≤◌, ◌<◌, ◌^◌, ℕ, List, [], ◌∷◌, length, get_or, arith}
 use Rattle.std.specs.Prelude.{◌-◌, nat_lt, false}
 use Rattle.std.proofs.lemmas.Bool.Decides.{nat_tests}
-use Rattle.conda_version.specs.Runs.{decimal_from}
+use Rattle.byte_text.specs.Decimal.{decimal_from}
 
 -- more digits make no smaller number
 pub decimal-grows : (n : ℕ) (t : List ℕ) → n ≤ decimal_from n t

@@ -1,0 +1,3 @@
+pub mod Text
+pub mod Decimal
+pub use Rattle.gateway_words.specs.Ascii
