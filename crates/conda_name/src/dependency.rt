@@ -52,8 +52,9 @@ fn behind_channel(text: &[u8]) -> &[u8]
     found
 }
 
-// How many bytes of a name a text begins with.
-fn name_len(text: &[u8]) -> usize
+/// How many letters, digits, `_`, `-` and `.` a text begins with.
+#[inline]
+pub fn name_len(text: &[u8]) -> usize
     ensures value { result ≡ prefix_len is_name_byte text.now }
     ensures within { result ≤ length text.now }
 {

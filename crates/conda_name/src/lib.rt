@@ -8,7 +8,7 @@
 mod dependency;
 mod name;
 
-pub use dependency::dependency_name;
+pub use dependency::{dependency_name, name_len};
 pub use name::{Name, NameRefusal, same_name};
 
 #[cfg(test)]

@@ -53,26 +53,17 @@ pub(crate) enum Relation {
 pub(crate) fn operator_of(run: &[u8]) -> Option<Operator>
     ensures { operator_seen result ≡ operator_of run.now }
 {
-    if run.is_empty() {
-        Some(Operator::Bare)
-    } else if run == b"=".as_slice() {
-        Some(Operator::Equal)
-    } else if run == b"==".as_slice() {
-        Some(Operator::Exact)
-    } else if run == b"!=".as_slice() {
-        Some(Operator::NotEqual)
-    } else if run == b"<".as_slice() {
-        Some(Operator::Less)
-    } else if run == b"<=".as_slice() {
-        Some(Operator::AtMost)
-    } else if run == b">".as_slice() {
-        Some(Operator::Greater)
-    } else if run == b">=".as_slice() {
-        Some(Operator::AtLeast)
-    } else if run == b"~=".as_slice() {
-        Some(Operator::Compatible)
-    } else {
-        None
+    match run {
+        b"" => Some(Operator::Bare),
+        b"=" => Some(Operator::Equal),
+        b"==" => Some(Operator::Exact),
+        b"!=" => Some(Operator::NotEqual),
+        b"<" => Some(Operator::Less),
+        b"<=" => Some(Operator::AtMost),
+        b">" => Some(Operator::Greater),
+        b">=" => Some(Operator::AtLeast),
+        b"~=" => Some(Operator::Compatible),
+        _ => None,
     }
 }
 

@@ -59,22 +59,14 @@ ghost use Rattle.match_spec.specs.Seen.{comparison_there};
 fn comparison_of(run: &[u8]) -> Option<Comparison>
     ensures { comparison_there result ≡ comparison_of run.now }
 {
-    if run.is_empty() {
-        Some(Comparison::Equal)
-    } else if run == b"==".as_slice() {
-        Some(Comparison::Equal)
-    } else if run == b"!=".as_slice() {
-        Some(Comparison::NotEqual)
-    } else if run == b"<".as_slice() {
-        Some(Comparison::Less)
-    } else if run == b"<=".as_slice() {
-        Some(Comparison::AtMost)
-    } else if run == b">".as_slice() {
-        Some(Comparison::Greater)
-    } else if run == b">=".as_slice() {
-        Some(Comparison::AtLeast)
-    } else {
-        None
+    match run {
+        b"" | b"==" => Some(Comparison::Equal),
+        b"!=" => Some(Comparison::NotEqual),
+        b"<" => Some(Comparison::Less),
+        b"<=" => Some(Comparison::AtMost),
+        b">" => Some(Comparison::Greater),
+        b">=" => Some(Comparison::AtLeast),
+        _ => None,
     }
 }
 

@@ -18,7 +18,7 @@ use crate::parts::{Faults, Parts};
 use crate::passage::Passage;
 use crate::text::before_colons;
 use byte_text::{before_last, cut_at, find, skip_blanks};
-use conda_name::{Name, NameRefusal};
+use conda_name::{Name, NameRefusal, name_len};
 use std::alloc::Global;
 use std::str;
 
@@ -87,29 +87,6 @@ fn read_before(
     }
     read_rest(alloc, rest.trimmed(), &mut parts)?;
     Ok((read_name(alloc, run)?, parts))
-}
-
-// How many bytes of a name a text begins with.
-fn name_len(text: &[u8]) -> usize
-    ensures value { result ≡ prefix_len is_name_byte text.now }
-    ensures within { result ≤ length text.now }
-{
-    let mut len = 0;
-    let mut rest = text;
-    'bytes: while let [byte, tail @ ..] = rest {
-        if !is_name_byte(*byte) {
-            break;
-        }
-        len += 1;
-        rest = tail;
-    }
-    len
-}
-
-fn is_name_byte(byte: u8) -> bool
-    ensures { result ≡ is_name_byte byte }
-{
-    byte.is_ascii_alphanumeric() || matches!(byte, b'_' | b'-' | b'.')
 }
 
 // Whether the first byte may follow a name, as the end may.

@@ -1,5 +1,5 @@
 -- The first of some faults is one.
-use Rattle.std.proofs.Common.{◌≡◌, sym, ◌∙◌, inl, inr, arith}
+use Rattle.std.proofs.Common.{◌≡◌, sym, ◌∙◌, ◌⊎◌, inl, inr, arith}
 use Rattle.mp_codec.specs.declared.fault.FormatFault.{FormatFault}
 use Rattle.mp_codec.specs.Fault.{Before, IsFirstFault}
 

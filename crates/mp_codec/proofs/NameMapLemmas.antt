@@ -1,15 +1,16 @@
 -- A map whose keys are names is read right: what is known of the names in front.
-use Rattle.std.proofs.Common.{◌≡◌, sym, ◌∙◌, ap, refl, ℕ, ◌⊎◌, inl, inr, Bool, true, List, [], ◌∷◌, ◌++◌, map, arith}
-use Rattle.std.specs.Prelude.{Option, Some}
+use Rattle.std.proofs.Common.{◌≡◌, sym, ◌∙◌, ap, refl, ℕ, ◌⊎◌, inl, inr, Bool, true, cond, List, [], ◌∷◌, ◌++◌, map, arith}
+use Rattle.std.specs.Prelude.{Option, Some, Ok, Err}
 use Rattle.std.specs.Str.{is_utf8}
 use Rattle.gateway_words.specs.Places.{Position}
+use Rattle.gateway_words.specs.Reading.{◌>>=◌}
 use Rattle.mp_codec.specs.declared.fault.FormatFault.{FormatFault}
 use Rattle.mp_codec.specs.declared.fault.FaultKind.TheVariants as kind
 use Rattle.mp_codec.specs.Value.{Value, Pairs, str_of}
 use Rattle.mp_codec.specs.Spelling.{Lies}
 use Rattle.mp_codec.specs.Fault.{Faults, fault_here, TextFault}
 use Rattle.mp_codec.specs.Keys.{has_key}
-use Rattle.mp_codec.specs.Maps.{text_from}
+use Rattle.mp_codec.specs.Maps.{Read, text_from}
 use Rattle.mp_codec.specs.Names.{RepeatedName, again, new_name_from}
 use Rattle.mp_codec.proofs.JudgingLemmas.{StandBehind, JudgesOne}
 use Rattle.mp_codec.proofs.LeafLemmas.{IsText, text_judged, text_behind, text_clean}
@@ -77,3 +78,13 @@ name_judged met front here are =
     ])
     (λ name v is good. is.0)
     (text_from here) (text_judged here)
+
+-- tests that agree give the same reading of a name
+pub same_met : (f g : List ℕ → Bool) (here : Position) → ((q : List ℕ) → f q ≡ g q) → new_name_from f here ≡ new_name_from g here
+unfolding new_name_from
+same_met f g here same = go (text_from here)
+  where
+    go : (r : Read (List ℕ)) → (r >>= λ t. cond {A = Read (List ℕ)} (f t.0) (Err (fault_here kind.Repeated here)) (Ok (t.0, t.1)))
+        ≡ (r >>= λ t. cond {A = Read (List ℕ)} (g t.0) (Err (fault_here kind.Repeated here)) (Ok (t.0, t.1)))
+    go (Ok t) = ap (λ (b : Bool). cond {A = Read (List ℕ)} b (Err (fault_here kind.Repeated here)) (Ok (t.0, t.1))) (same t.0)
+    go (Err e) = refl

@@ -1,5 +1,5 @@
 -- Maps whose keys are names: different texts.
-use Rattle.std.specs.Prelude.{◌≡◌, ◌⊎◌, Bool, true, ℕ, List, Ok, Err, if◌then◌else◌, Some}
+use Rattle.std.specs.Prelude.{◌≡◌, ◌⊎◌, Bool, true, ℕ, List, Ok, Err, if◌then◌else◌, Option, Some}
 use Rattle.std.specs.Str.{is_utf8}
 use Rattle.gateway_words.specs.Places.{Position}
 use Rattle.gateway_words.specs.Reading.{◌>>=◌}

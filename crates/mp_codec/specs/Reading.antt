@@ -1,5 +1,5 @@
 -- What a cursor's calls give, as functions of the position.
-use Rattle.std.specs.Prelude.{◌≡◌, ℕ, zero, suc, ◌+◌, nat_lt, List, length, take, Result, Ok, Err, if◌then◌else◌}
+use Rattle.std.specs.Prelude.{◌≡◌, ℕ, zero, suc, ◌+◌, Bool, true, false, nat_lt, List, length, take, Result, Ok, Err, if◌then◌else◌}
 use Rattle.gateway_words.specs.Places.{Position, behind, end_of}
 use Rattle.gateway_words.specs.Reading.{◌>>=◌}
 use Rattle.mp_codec.specs.declared.fault.FormatFault.{FormatFault}
@@ -54,6 +54,11 @@ abbrev pub NodePasses : Result ℕ FormatFault → Position → Result (Head × 
 NodePasses (Ok parts) new (Ok node) = (parts ≡ part_count node.0) × (new ≡ node.2)
 NodePasses (Ok parts) new (Err f) = ⊥
 NodePasses (Err f) new reading = reading ≡ Err f
+
+-- a call that passes over a node without values in it, or stands as before
+abbrev pub PassesLeaf : Bool → Position → Position → Result (Head × List ℕ × Position) FormatFault → Type 0
+PassesLeaf true old new node = NodePasses (Ok 0) new node
+PassesLeaf false old new node = new ≡ old
 
 -- the position behind so many values, met in at most fuel steps
 unfoldable pub pass : ℕ → ℕ → Position → Result Position FormatFault

@@ -8,7 +8,7 @@ ghost use Rattle.mp_codec.specs.Value.{Value};
 ghost use Rattle.mp_codec.specs.Maps.{IsStr, number_from};
 ghost use Rattle.mp_codec.specs.Span.{IsIn};
 ghost use Rattle.mp_codec.specs.Spelling.{HeadLies, Lies, Breaks, short};
-ghost use Rattle.mp_codec.specs.Reading.{Steps, Passes, NodePasses, head_fault, head_from, bytes_from, node_from, values_from};
+ghost use Rattle.mp_codec.specs.Reading.{Steps, Passes, NodePasses, PassesLeaf, head_fault, head_from, bytes_from, node_from, values_from};
 
 use crate::fault::{FaultKind, FormatFault};
 use crate::head::{Head, common_node_in, head_in, short_str_in, unsigned_in};
@@ -198,6 +198,10 @@ impl<'a> Cursor<'a> {
         let mut ahead = self.copy();
         let mut owed: u64 = 1;
         while owed > 0 {
+            if ahead.pass_short_str() {
+                owed -= 1;
+                continue;
+            }
             match ahead.next_node() {
                 Ok(parts) => owed = (owed - 1).saturating_add(parts),
                 Err(fault) => return Err(fault),
@@ -206,20 +210,32 @@ impl<'a> Cursor<'a> {
         Ok(ahead)
     }
 
+    // Passes over a str whose head has one or two bytes, where one stands whole, and says whether it did.
+    #[inline(always)]
+    fn pass_short_str(&mut self) -> bool
+        ensures { PassesLeaf result self.old self.new (node_from self.old) }
+    {
+        match self.short_str() {
+            Some((_, len)) => {
+                self.pass(len);
+                true
+            }
+            None => false,
+        }
+    }
+
     // Passes over the head and the payload of the next value, and says how many values are in it.
     #[inline(always)]
     fn next_node(&mut self) -> Result<u64, FormatFault>
         ensures { NodePasses result self.new (node_from self.old) }
     {
-        if let Some((_, len)) = self.short_str() {
-            self.pass(len);
-            return Ok(0);
+        match self.common_node() {
+            Some((len, parts)) => {
+                self.pass(len);
+                Ok(parts)
+            }
+            None => self.next_other_node(),
         }
-        if let Some((len, parts)) = self.common_node() {
-            self.pass(len);
-            return Ok(parts);
-        }
-        self.next_other_node()
     }
 
     // How many bytes the head and the payload of the next value take and how many values are in it,

@@ -145,9 +145,13 @@ pub(crate) fn common_node_in(bytes: &[u8]) -> Option<(usize, u64)>
 pub(crate) fn short_str_in(bytes: &[u8]) -> Option<(u8, u8)>
     ensures { IfSome result (λ s. head_at bytes.now ≡ Ok (Head.Str s.0, s.1)) }
 {
-    match bytes {
-        [first @ 0xa0..=0xbf, ..] => Some((*first - 0xa0, 1)),
-        [0xd9, len, ..] => Some((*len, 2)),
+    let (first, rest) = bytes.split_first()?;
+    match *first {
+        first @ 0xa0..=0xbf => Some((first - 0xa0, 1)),
+        0xd9 => match rest {
+            [len, ..] => Some((*len, 2)),
+            [] => None,
+        },
         _ => None,
     }
 }

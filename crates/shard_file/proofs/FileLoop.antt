@@ -15,17 +15,8 @@ use Rattle.conda_record.specs.Record.{Fields}
 use Rattle.conda_record.specs.Reading.{record_from}
 use Rattle.shard_file.specs.Rows.{Row}
 use Rattle.mp_codec.specs.Names.{new_name_from}
+use Rattle.mp_codec.proofs.NameMapLemmas.{same_met}
 use Rattle.shard_file.specs.Reading.{has_file, file_key_from, file_value_from, file_end_from, files_after}
-
--- tests that agree give the same reading of a name
-same_met : (f g : List ℕ → Bool) (here : Position) → ((q : List ℕ) → f q ≡ g q) → new_name_from f here ≡ new_name_from g here
-unfolding new_name_from
-same_met f g here same = go (text_from here)
-  where
-    go : (r : Read (List ℕ)) → (r >>= λ t. cond {A = Read (List ℕ)} (f t.0) (Err (fault_here kind.Repeated here)) (Ok (t.0, t.1)))
-        ≡ (r >>= λ t. cond {A = Read (List ℕ)} (g t.0) (Err (fault_here kind.Repeated here)) (Ok (t.0, t.1)))
-    go (Ok t) = ap (λ (b : Bool). cond {A = Read (List ℕ)} b (Err (fault_here kind.Repeated here)) (Ok (t.0, t.1))) (same t.0)
-    go (Err e) = refl
 
 -- a new name is the text that stands here
 pub name_read : (met : List ℕ → Bool) (here there : Position) (name : List ℕ) → new_name_from met here ≡ Ok (name, there) → text_from here ≡ Ok (name, there)

@@ -16,17 +16,8 @@ use Rattle.mp_codec.proofs.EntryLemmas.{goes_on, key_stops, value_stops, is_done
 use Rattle.shard_index.specs.Digests.{digest_from}
 use Rattle.shard_index.specs.Index.{Listed}
 use Rattle.mp_codec.specs.Names.{new_name_from}
+use Rattle.mp_codec.proofs.NameMapLemmas.{same_met}
 use Rattle.shard_index.specs.Reading.{is_listed, AreDistinct, name_from, listed_value_from, listed_end_from, listed_after}
-
--- tests that agree give the same reading of a name
-same_met : (f g : List ℕ → Bool) (here : Position) → ((q : List ℕ) → f q ≡ g q) → new_name_from f here ≡ new_name_from g here
-unfolding new_name_from
-same_met f g here same = go (text_from here)
-  where
-    go : (r : Read (List ℕ)) → (r >>= λ t. cond {A = Read (List ℕ)} (f t.0) (Err (fault_here kind.Repeated here)) (Ok (t.0, t.1)))
-        ≡ (r >>= λ t. cond {A = Read (List ℕ)} (g t.0) (Err (fault_here kind.Repeated here)) (Ok (t.0, t.1)))
-    go (Ok t) = ap (λ (b : Bool). cond {A = Read (List ℕ)} b (Err (fault_here kind.Repeated here)) (Ok (t.0, t.1))) (same t.0)
-    go (Err e) = refl
 
 -- a name with its digest
 abbrev pub entry : List ℕ → Digest → Listed

@@ -5,7 +5,7 @@ use Rattle.mp_codec.specs.declared.fault.FormatFault.{FormatFault}
 use Rattle.mp_codec.specs.declared.head.Head.{Head}
 use Rattle.mp_codec.specs.Reading.{NodePasses}
 use Rattle.mp_codec.proofs.StrLemmas.{node_read}
-use Rattle.mp_codec.proofs.cursor.Cursor.next_node.Goals as goal
+use Rattle.mp_codec.proofs.cursor.Cursor.pass_short_str.Goals as goal
 
 pub returns-in-Some : goal.returns-in-Some
 returns-in-Some c =
