@@ -210,4 +210,20 @@ mod tests {
         assert_eq!(rt; patience(&mut line)?, 3);
         Ok(())
     }
+
+    // A line that began so many seconds ago, and took no byte yet.
+    fn begun_before(rt: &HostRuntime, seconds: u64) -> Result<Line, Fail> {
+        let mut line = Line::new(rt.alloc(), "127.0.0.1:1")?;
+        line.begun = Instant::now(rt)?.checked_sub(Duration::from_secs(seconds));
+        Ok(line)
+    }
+
+    // The first call of a line that began before its time is up looks the host up, and a call behind
+    // its time is refused.
+    #[test]
+    fn a_request_has_its_time(rt: HostRuntime) -> Result<(), Fail> {
+        assert!(rt; begun_before(&rt, MOST_SECONDS - 2)?.write(&rt, b"a").is_ok());
+        assert!(rt; begun_before(&rt, MOST_SECONDS + 1)?.write(&rt, b"a").is_err());
+        Ok(())
+    }
 }

@@ -41,11 +41,17 @@ struct Found {
 fn key_of(key: Option<&[u8]>) -> Key
     ensures { place result ≡ place_of shard_keys (bytes_behind key.entry) }
 {
-    match key {
-        Some(b"packages") => Key::Packages,
-        Some(b"packages.conda") => Key::Conda,
-        Some(b"removed") => Key::Removed,
-        _ => Key::Other,
+    let Some(bytes) = key else {
+        return Key::Other;
+    };
+    if bytes == b"packages".as_slice() {
+        Key::Packages
+    } else if bytes == b"packages.conda".as_slice() {
+        Key::Conda
+    } else if bytes == b"removed".as_slice() {
+        Key::Removed
+    } else {
+        Key::Other
     }
 }
 

@@ -65,12 +65,19 @@ struct FoundInfo {
 fn key_of(key: Option<&[u8]>) -> InfoKey
     ensures { info_place result ≡ place_of info_keys (bytes_behind key.entry) }
 {
-    match key {
-        Some(b"base_url") => InfoKey::BaseUrl,
-        Some(b"shards_base_url") => InfoKey::ShardsBaseUrl,
-        Some(b"subdir") => InfoKey::Subdir,
-        Some(b"created_at") => InfoKey::CreatedAt,
-        _ => InfoKey::Other,
+    let Some(bytes) = key else {
+        return InfoKey::Other;
+    };
+    if bytes == b"base_url".as_slice() {
+        InfoKey::BaseUrl
+    } else if bytes == b"shards_base_url".as_slice() {
+        InfoKey::ShardsBaseUrl
+    } else if bytes == b"subdir".as_slice() {
+        InfoKey::Subdir
+    } else if bytes == b"created_at".as_slice() {
+        InfoKey::CreatedAt
+    } else {
+        InfoKey::Other
     }
 }
 

@@ -54,11 +54,17 @@ struct Found {
 fn key_of(key: Option<&[u8]>) -> Key
     ensures { place result ≡ place_of index_keys (bytes_behind key.entry) }
 {
-    match key {
-        Some(b"shards") => Key::Shards,
-        Some(b"version") => Key::Version,
-        Some(b"info") => Key::Info,
-        _ => Key::Other,
+    let Some(bytes) = key else {
+        return Key::Other;
+    };
+    if bytes == b"shards".as_slice() {
+        Key::Shards
+    } else if bytes == b"version".as_slice() {
+        Key::Version
+    } else if bytes == b"info".as_slice() {
+        Key::Info
+    } else {
+        Key::Other
     }
 }
 

@@ -1,4 +1,4 @@
-use Rattle.std.proofs.Common.{rules, ◌≡◌, sym, ◌∙◌, arith}
+use Rattle.std.proofs.Common.{rules, sym, ◌∙◌}
 use Rattle.shard_file.specs.Twin.{newer_ending}
 use Rattle.shard_file.proofs.TwinLemmas.{cmp_shorter}
 use Rattle.shard_file.proofs.twin.compare.Goals as goal

@@ -1,4 +1,4 @@
-use Rattle.std.proofs.Common.{rules, ◌≡◌, get_or, sym, subst, ℕ, ◌<◌, ◌++◌, List, false, arith}
+use Rattle.std.proofs.Common.{rules, ◌≡◌, get_or, sym, subst, ℕ, ◌++◌, List, false, arith}
 use Rattle.std.specs.List.{slice_get}
 use Rattle.std.specs.Ordering.{is_lt}
 use Rattle.std.specs.List.Sorted.{IsSortedBy}
