@@ -1,23 +1,17 @@
 -- A map from names to digests is read right.
-use Rattle.std.proofs.Common.{◌≡◌, refl, sym, ◌∙◌, ap, ℕ, ◌⊎◌, inl, inr, Bool, true, false, cond, ◌||◌, List, [], ◌∷◌, ◌++◌, map, arith}
+use Rattle.std.proofs.Common.{◌≡◌, refl, sym, ◌∙◌, ap, ℕ, Bool, true, false, cond, ◌||◌, List, [], ◌∷◌, ◌++◌, map}
 use Rattle.std.specs.Prelude.{Option, Some, unwrap_or, is_some}
-use Rattle.std.specs.Str.{bytes_eq, is_utf8}
+use Rattle.std.specs.Str.{bytes_eq}
 use Rattle.digest_gate.specs.declared.digest.Digest.{Digest}
 use Rattle.gateway_words.specs.Places.{Position}
-use Rattle.mp_codec.specs.declared.fault.FormatFault.{FormatFault}
-use Rattle.mp_codec.specs.declared.fault.FaultKind.TheVariants as kind
 use Rattle.mp_codec.specs.Value.{Value, Pairs, pairs_of, str_of}
-use Rattle.mp_codec.specs.Spelling.{Lies}
-use Rattle.mp_codec.specs.Fault.{Faults, no_fault, fault_here, TextFault, PairsFault}
+use Rattle.mp_codec.specs.Fault.{no_fault, PairsFault}
 use Rattle.mp_codec.specs.Keys.{has_bytes, is_key, value_at, has_key}
-use Rattle.mp_codec.specs.Maps.{text_from}
 use Rattle.mp_codec.proofs.NameMapLemmas.{AllStrs, IsName, NameFault, map_more, name_judged, names_behind, strs_more}
 use Rattle.mp_codec.proofs.JudgingLemmas.{StandBehind, JudgesOne}
-use Rattle.mp_codec.proofs.LeafLemmas.{IsText}
 use Rattle.mp_codec.proofs.MapLemmas.{mapped, JudgesEnd, pairs_behind, entries_judged, map_judged, map_behind}
 use Rattle.shard_index.specs.Digests.{digest_of, DigestFault, digest_from}
 use Rattle.shard_index.specs.Index.{Listed, listed_of, shards_rules, ShardsFault}
-use Rattle.mp_codec.specs.Names.{new_name_from}
 use Rattle.shard_index.specs.Reading.{is_listed, name_from, listed_value_from, listed_end_from, listed_after, listed_from}
 use Rattle.shard_index.proofs.DigestLemmas.{IsDigest, digest_judged, digest_stands}
 

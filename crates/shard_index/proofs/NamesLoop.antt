@@ -1,16 +1,12 @@
 -- The loop over the names of an index: what is left to read, step by step.
-use Rattle.std.proofs.Common.{◌≡◌, refl, sym, ◌∙◌, ap, ℕ, ◌+◌, ◌-◌, ◌<◌, ◌≤◌, Bool, true, false, cond, ◌||◌, List, [], ◌∷◌, ◌++◌, map}
+use Rattle.std.proofs.Common.{◌≡◌, refl, sym, ◌∙◌, ap, ℕ, ◌+◌, ◌-◌, ◌<◌, ◌≤◌, Bool, true, false, ◌||◌, List, [], ◌∷◌, ◌++◌, map}
 use Rattle.std.specs.Prelude.{Ok, Err}
 use Rattle.std.specs.List.{IsDistinct, AllByRecursion}
 use Rattle.std.specs.Str.{bytes_eq}
 use Rattle.std.proofs.lemmas.List.Folds.{list_any-append}
 use Rattle.digest_gate.specs.declared.digest.Digest.{Digest}
 use Rattle.gateway_words.specs.Places.{Position}
-use Rattle.gateway_words.specs.Reading.{◌>>=◌}
 use Rattle.mp_codec.specs.declared.fault.FormatFault.{FormatFault}
-use Rattle.mp_codec.specs.declared.fault.FaultKind.TheVariants as kind
-use Rattle.mp_codec.specs.Fault.{fault_here}
-use Rattle.mp_codec.specs.Maps.{Read, text_from}
 use Rattle.mp_codec.proofs.BindLemmas.{bind_ok, bind_err}
 use Rattle.mp_codec.proofs.EntryLemmas.{goes_on, key_stops, value_stops, is_done}
 use Rattle.shard_index.specs.Digests.{digest_from}

@@ -2,17 +2,15 @@
 use Rattle.std.specs.Prelude.{◌≡◌, ◌⊎◌, ℕ, Bool, true, List, [], ◌∷◌, Option, Some, None, map, unwrap_or, codes, if◌then◌else◌}
 use Rattle.std.specs.Ordering.{is_lt, nat_cmp}
 use Rattle.std.specs.Cmp.Lexicographic.{slice_cmp}
-use Rattle.std.specs.Str.{is_utf8, bytes_eq}
+use Rattle.std.specs.Str.{bytes_eq}
 use Rattle.std.specs.List.Sorted.{IsSortedBy, IsStableBy}
 use Rattle.digest_gate.specs.declared.digest.Digest.{Digest}
-use Rattle.gateway_words.specs.Places.{Position}
 use Rattle.mp_codec.specs.declared.fault.FormatFault.{FormatFault}
-use Rattle.mp_codec.specs.declared.fault.FaultKind.TheVariants as kind
-use Rattle.mp_codec.specs.Value.{Value, Pairs, pairs_of, str_of}
-use Rattle.mp_codec.specs.Spelling.{Spells, Lies}
-use Rattle.mp_codec.specs.Fault.{Faults, no_fault, fault_here, TextFault, MapRules, MapFault, BytesFault}
+use Rattle.mp_codec.specs.Value.{Value, pairs_of, str_of}
+use Rattle.mp_codec.specs.Spelling.{Spells}
+use Rattle.mp_codec.specs.Fault.{Faults, MapRules, MapFault, BytesFault}
 use Rattle.mp_codec.specs.Names.{names_rules}
-use Rattle.mp_codec.specs.Keys.{is_key, value_at, has_key, RepeatedKey, MissingKey}
+use Rattle.mp_codec.specs.Keys.{is_key, value_at, RepeatedKey, MissingKey}
 use Rattle.shard_index.specs.declared.writing.IndexRow.{IndexRow}
 use Rattle.shard_index.specs.Digests.{digest_of, DigestFault}
 use Rattle.shard_index.specs.Version.{VersionFault}

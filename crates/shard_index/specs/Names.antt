@@ -1,14 +1,9 @@
 -- Names in a set, and a name that is in none.
-use Rattle.std.specs.Prelude.{ℕ, Bool, List, Ok, Err, if◌then◌else◌}
+use Rattle.std.specs.Prelude.{ℕ, Bool, List}
 use Rattle.std.specs.Ordering.{nat_cmp}
 use Rattle.std.specs.Borrow.{Bor}
 use Rattle.std.specs.Cmp.Lexicographic.{slice_cmp}
 use Rattle.std.specs.BTreeSet.{BTreeSet, contains_by}
-use Rattle.gateway_words.specs.Places.{Position}
-use Rattle.gateway_words.specs.Reading.{◌>>=◌}
-use Rattle.mp_codec.specs.declared.fault.FaultKind.TheVariants as kind
-use Rattle.mp_codec.specs.Fault.{fault_here}
-use Rattle.mp_codec.specs.Maps.{Read, text_from}
 
 -- the set has this name
 abbrev pub has_name : BTreeSet (Bor (List ℕ)) → List ℕ → Bool

@@ -11,8 +11,10 @@ fn refusal_of(alloc: Global, text: &str) -> Result<Option<JsonRefusal>, Fail> {
 
 fn record_of(alloc: Global, text: &str) -> Result<PackageRecord, Fail> {
     let value = Value::from_str(alloc, text)?;
-    let record = PackageRecord::from_json(alloc, &value).ok();
-    Ok(record.ok_or("no record")?)
+    match PackageRecord::from_json(alloc, &value) {
+        Ok(record) => Ok(record),
+        Err(_) => Err("no record".into()),
+    }
 }
 
 // Values that give no record.

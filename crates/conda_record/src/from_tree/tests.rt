@@ -11,7 +11,10 @@ fn record_in(alloc: Global, text: &str) -> Result<Option<PackageRecord>, Fail> {
 }
 
 fn record_of(alloc: Global, text: &str) -> Result<PackageRecord, Fail> {
-    Ok(record_in(alloc, text)?.ok_or("no record")?)
+    match record_in(alloc, text)? {
+        Some(record) => Ok(record),
+        None => Err("no record".into()),
+    }
 }
 
 fn is_data_in(alloc: Global, text: &str) -> Result<bool, Fail> {
@@ -23,8 +26,10 @@ fn is_data_in(alloc: Global, text: &str) -> Result<bool, Fail> {
 // The record that the other reader of JSON gives for the same text.
 fn other_record_of(alloc: Global, text: &str) -> Result<PackageRecord, Fail> {
     let value = serde_json::Value::from_str(alloc, text)?;
-    let record = PackageRecord::from_json(alloc, &value).ok();
-    Ok(record.ok_or("no record")?)
+    match PackageRecord::from_json(alloc, &value) {
+        Ok(record) => Ok(record),
+        Err(_) => Err("no record".into()),
+    }
 }
 
 // Values that are data, and values with a number out of range.
