@@ -10,6 +10,8 @@ mod copying;
 mod data;
 mod from_json;
 mod from_tree;
+#[cfg(test)]
+mod json_rows;
 mod laws;
 mod reading;
 mod record;

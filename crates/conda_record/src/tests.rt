@@ -204,16 +204,16 @@ const EMPTY_PLACES: [(Field, Option<(usize, usize)>); 8] = [
     (Field::Constrain(0), None),
 ];
 
-// What is wrong, and where.
-fn in_parts(outcome: Result<PackageRecord, RecordRefusal>) -> Option<(FaultKind, u64)> {
-    match outcome {
+// What is wrong with the record that stands at a cursor, and where.
+fn fault_at(alloc: Global, cursor: &mut Cursor<'_>) -> Option<(FaultKind, u64)> {
+    match PackageRecord::read(alloc, cursor) {
         Err(RecordRefusal::Fault(fault)) => Some((fault.kind, fault.at)),
         Ok(_) | Err(RecordRefusal::Memory) => None,
     }
 }
 
 // The record of the required keys, and behind them these bytes: one key with its value.
-fn with_pair(alloc: Global, pair: &[&[u8]]) -> Result<PackageRecord, Fail> {
+fn with_pair(alloc: Global, pair: &[&[u8]]) -> Result<Vec<u8>, Fail> {
     let mut bytes = REQUIRED.to_vec(alloc)?;
     if let Some(head) = bytes.first_mut() {
         *head = 0x84;
@@ -221,20 +221,7 @@ fn with_pair(alloc: Global, pair: &[&[u8]]) -> Result<PackageRecord, Fail> {
     for part in pair {
         bytes.extend_from_slice(part)?;
     }
-    let mut cursor = Cursor::new(bytes.as_slice());
-    let record = read(alloc, &mut cursor)?;
-    if cursor.is_end() {
-        Ok(record)
-    } else {
-        Err("bytes are left".into())
-    }
-}
-
-fn read(alloc: Global, cursor: &mut Cursor<'_>) -> Result<PackageRecord, Fail> {
-    match PackageRecord::read(alloc, cursor) {
-        Ok(record) => Ok(record),
-        Err(refusal) => Err(refusal.into()),
-    }
+    Ok(bytes)
 }
 
 // Whether none of the optional keys is there.
@@ -284,54 +271,75 @@ fn has_all_numbers(view: RecordView<'_>) -> bool {
         && view.timestamp() == Some(0x0000_018a_bcde_f012)
 }
 
-#[test]
-fn reads_all_keys(rt: HostRuntime) -> Result<(), Fail> {
-    let mut cursor = Cursor::new(ALL_KEYS);
-    let record = read(rt.alloc(), &mut cursor)?;
-    assert_eq!(rt; cursor.number_or_skip()?, Some(7));
-    assert!(rt; cursor.is_end());
-    assert!(rt; has_all_texts(record.view()));
-    assert!(rt; has_all_lists(record.view()));
-    assert!(rt; has_all_numbers(record.view()));
-    Ok(())
+// Whether bytes are the record with all keys, and behind it the number 7.
+fn is_all_keys(alloc: Global, bytes: &[u8]) -> bool {
+    let mut cursor = Cursor::new(bytes);
+    match PackageRecord::read(alloc, &mut cursor) {
+        Ok(record) => {
+            has_all_texts(record.view())
+                && has_all_lists(record.view())
+                && has_all_numbers(record.view())
+                && cursor.number_or_skip() == Ok(Some(7))
+                && cursor.is_end()
+        }
+        Err(_) => false,
+    }
 }
 
 #[test]
-fn reads_the_required_keys_alone(rt: HostRuntime) -> Result<(), Fail> {
-    let mut cursor = Cursor::new(REQUIRED);
-    let record = read(rt.alloc(), &mut cursor)?;
-    assert!(rt; cursor.is_end());
-    assert!(rt; has_required_alone(record.view()));
-    Ok(())
+fn reads_all_keys(rt: HostRuntime) {
+    assert!(rt; is_all_keys(rt.alloc(), ALL_KEYS));
 }
 
-// The spans of the record that some bytes begin with.
-fn spans(alloc: Global, bytes: &[u8]) -> Result<RecordSpans, Fail> {
+// Whether bytes are a record with the required keys alone, and nothing behind it.
+fn is_required_alone(alloc: Global, bytes: &[u8]) -> bool {
+    let mut cursor = Cursor::new(bytes);
+    match PackageRecord::read(alloc, &mut cursor) {
+        Ok(record) => cursor.is_end() && has_required_alone(record.view()),
+        Err(_) => false,
+    }
+}
+
+#[test]
+fn reads_the_required_keys_alone(rt: HostRuntime) {
+    assert!(rt; is_required_alone(rt.alloc(), REQUIRED));
+}
+
+// Whether the texts of the record that some bytes begin with stand at these places.
+fn stand_at(alloc: Global, bytes: &[u8], places: &[(Field, Option<(usize, usize)>)]) -> bool {
     match RecordSpans::read(alloc, &mut Cursor::new(bytes)) {
-        Ok(spans) => Ok(spans),
-        Err(refusal) => Err(refusal.into()),
+        Ok(record) => are_at(&record, places),
+        Err(_) => false,
     }
 }
 
-#[test]
-fn a_span_is_where_its_text_stands(rt: HostRuntime) -> Result<(), Fail> {
-    let record = spans(rt.alloc(), ALL_KEYS)?;
-    for (field, place) in PLACES {
-        assert_eq!(rt; record.span(field), place, "{field:?}");
+fn are_at(record: &RecordSpans, places: &[(Field, Option<(usize, usize)>)]) -> bool {
+    for (field, place) in places {
+        if record.span(*field) != *place {
+            return false;
+        }
     }
+    true
+}
+
+#[test]
+fn a_span_is_where_its_text_stands(rt: HostRuntime) {
+    assert!(rt; stand_at(rt.alloc(), ALL_KEYS, &PLACES));
     let (bytes, _) = WRITTEN[2];
-    let record = spans(rt.alloc(), bytes)?;
-    for (field, place) in EMPTY_PLACES {
-        assert_eq!(rt; record.span(field), place, "{field:?}");
+    assert!(rt; stand_at(rt.alloc(), bytes, &EMPTY_PLACES));
+}
+
+// Whether the record of the required keys is shown from its spans.
+fn is_shown(alloc: Global) -> bool {
+    match RecordSpans::read(alloc, &mut Cursor::new(REQUIRED)) {
+        Ok(spans) => has_required_alone(spans.view(REQUIRED)),
+        Err(_) => false,
     }
-    Ok(())
 }
 
 #[test]
-fn a_record_is_shown_from_its_spans(rt: HostRuntime) -> Result<(), Fail> {
-    let record = spans(rt.alloc(), REQUIRED)?;
-    assert!(rt; has_required_alone(record.view(REQUIRED)));
-    Ok(())
+fn a_record_is_shown_from_its_spans(rt: HostRuntime) {
+    assert!(rt; is_shown(rt.alloc()));
 }
 
 // What a record is written as, behind a nil.
@@ -344,10 +352,18 @@ fn put(alloc: Global, record: &PackageRecord) -> Result<Vec<u8>, Fail> {
     Ok(out)
 }
 
+// What a copy of a record is written as, behind a nil.
+fn put_copy(alloc: Global, view: RecordView<'_>) -> Result<Vec<u8>, Fail> {
+    let record = PackageRecord::copy(alloc, view)?;
+    put(alloc, &record)
+}
+
 // What a copy of the record that some bytes begin with is written as, behind a nil.
 fn copied(alloc: Global, bytes: &[u8]) -> Result<Vec<u8>, Fail> {
-    let spans = spans(alloc, bytes)?;
-    put(alloc, &PackageRecord::copy(alloc, spans.view(bytes))?)
+    match RecordSpans::read(alloc, &mut Cursor::new(bytes)) {
+        Ok(spans) => put_copy(alloc, spans.view(bytes)),
+        Err(refusal) => Err(refusal.into()),
+    }
 }
 
 #[test]
@@ -363,8 +379,8 @@ fn a_record_is_copied_from_its_spans(rt: HostRuntime) -> Result<(), Fail> {
 fn a_value_of_another_kind_counts_as_missing(rt: HostRuntime) -> Result<(), Fail> {
     for key in OPTIONAL {
         for value in OTHER_KINDS {
-            let record = with_pair(rt.alloc(), &[key, value])?;
-            assert!(rt; has_required_alone(record.view()), "{key:?} {value:?}");
+            let bytes = with_pair(rt.alloc(), &[key, value])?;
+            assert!(rt; is_required_alone(rt.alloc(), &bytes), "{key:?} {value:?}");
         }
     }
     Ok(())
@@ -373,40 +389,48 @@ fn a_value_of_another_kind_counts_as_missing(rt: HostRuntime) -> Result<(), Fail
 #[test]
 fn a_key_that_is_no_str_is_not_known(rt: HostRuntime) -> Result<(), Fail> {
     for key in NO_STRS {
-        let record = with_pair(rt.alloc(), &[key, b"\x07"])?;
-        assert!(rt; has_required_alone(record.view()), "{key:?}");
+        let bytes = with_pair(rt.alloc(), &[key, b"\x07"])?;
+        assert!(rt; is_required_alone(rt.alloc(), &bytes), "{key:?}");
     }
     Ok(())
 }
 
+// The md5 of the record that some bytes are.
+fn md5_in(alloc: Global, bytes: &[u8]) -> Result<Option<[u8; 16]>, Fail> {
+    match PackageRecord::read(alloc, &mut Cursor::new(bytes)) {
+        Ok(record) => Ok(record.view().md5()),
+        Err(refusal) => Err(refusal.into()),
+    }
+}
+
 // The md5 of a record in which this value stands behind that key.
 fn md5_of(alloc: Global, value: &[u8]) -> Result<Option<[u8; 16]>, Fail> {
-    let record = with_pair(alloc, &[b"\xa3md5", value])?;
-    Ok(record.view().md5())
+    md5_in(alloc, &with_pair(alloc, &[b"\xa3md5", value])?)
 }
 
 #[test]
 fn a_digest_is_read_from_bytes_or_digits(rt: HostRuntime) -> Result<(), Fail> {
     for value in DIGESTS {
-        assert_eq!(rt; md5_of(rt.alloc(), value)?, Some(DIGEST), "{value:?}");
+        assert!(rt; md5_of(rt.alloc(), value)? == Some(DIGEST), "{value:?}");
     }
     for value in NO_DIGESTS {
-        assert_eq!(rt; md5_of(rt.alloc(), value)?, None, "{value:?}");
+        assert!(rt; md5_of(rt.alloc(), value)?.is_none(), "{value:?}");
     }
     Ok(())
 }
 
 // What the record that some bytes begin with is written as, behind a nil.
 fn written(alloc: Global, bytes: &[u8]) -> Result<Vec<u8>, Fail> {
-    let record = read(alloc, &mut Cursor::new(bytes))?;
-    put(alloc, &record)
+    match PackageRecord::read(alloc, &mut Cursor::new(bytes)) {
+        Ok(record) => put(alloc, &record),
+        Err(refusal) => Err(refusal.into()),
+    }
 }
 
 // Whether these bytes are one record, with nothing behind it.
-fn is_record(alloc: Global, bytes: &[u8]) -> Result<bool, Fail> {
+fn is_record(alloc: Global, bytes: &[u8]) -> bool {
     let mut cursor = Cursor::new(bytes);
-    let _record = read(alloc, &mut cursor)?;
-    Ok(cursor.is_end())
+    PackageRecord::read(alloc, &mut cursor).is_ok() && cursor.is_end()
 }
 
 #[test]
@@ -416,7 +440,7 @@ fn writes_what_another_program_writes(rt: HostRuntime) -> Result<(), Fail> {
         assert_eq!(rt; out.as_slice().strip_prefix(b"\xc0"), Some(expected));
         let again = written(rt.alloc(), expected)?;
         assert_eq!(rt; again.as_slice().strip_prefix(b"\xc0"), Some(expected));
-        assert!(rt; is_record(rt.alloc(), expected)?);
+        assert!(rt; is_record(rt.alloc(), expected));
     }
     Ok(())
 }
@@ -426,9 +450,9 @@ fn answers_each_fault_with_its_place(rt: HostRuntime) {
     for (bytes, kind, at) in FAULTS {
         let mut cursor = Cursor::new(bytes);
         assert!(rt; cursor.skip().is_ok(), "{bytes:?}");
-        let outcome = PackageRecord::read(rt.alloc(), &mut cursor);
-        assert_eq!(rt; in_parts(outcome), Some((kind, at)), "{bytes:?}");
-        assert_eq!(rt; cursor.at(), 1, "{bytes:?}");
+        let fault = fault_at(rt.alloc(), &mut cursor);
+        assert!(rt; fault == Some((kind, at)), "{bytes:?}");
+        assert!(rt; cursor.at() == 1, "{bytes:?}");
     }
 }
 
@@ -436,34 +460,39 @@ fn answers_each_fault_with_its_place(rt: HostRuntime) {
 fn a_record_that_breaks_off_is_short(rt: HostRuntime) {
     for end in 0..REQUIRED.len() {
         let bytes = REQUIRED.get(..end).unwrap_or_default();
-        let outcome = PackageRecord::read(rt.alloc(), &mut Cursor::new(bytes));
-        assert_eq!(rt; in_parts(outcome), Some((Short, end as u64)));
+        let fault = fault_at(rt.alloc(), &mut Cursor::new(bytes));
+        assert!(rt; fault == Some((Short, end as u64)));
     }
+}
+
+// A key twice with a nil behind it, in a map.
+fn twice(alloc: Global, key: &[u8]) -> Result<Vec<u8>, Fail> {
+    let mut bytes = b"\x82".to_vec(alloc)?;
+    for _ in 0..2 {
+        bytes.extend_from_slice(key)?;
+        bytes.push(0xc0)?;
+    }
+    Ok(bytes)
 }
 
 #[test]
 fn each_key_that_stands_twice_is_a_fault(rt: HostRuntime) -> Result<(), Fail> {
     for key in OPTIONAL {
-        let mut bytes = b"\x82".to_vec(rt.alloc())?;
-        for _ in 0..2 {
-            bytes.extend_from_slice(key)?;
-            bytes.push(0xc0)?;
-        }
-        let second = key.len() as u64 + 2;
-        let outcome = PackageRecord::read(rt.alloc(), &mut Cursor::new(bytes.as_slice()));
-        assert_eq!(rt; in_parts(outcome), Some((Repeated, second)), "{key:?}");
+        let bytes = twice(rt.alloc(), key)?;
+        let fault = fault_at(rt.alloc(), &mut Cursor::new(bytes.as_slice()));
+        assert!(rt; fault == Some((Repeated, key.len() as u64 + 2)), "{key:?}");
     }
     Ok(())
 }
 
 #[test]
-fn a_digest_of_another_kind_may_stand_once(rt: HostRuntime) {
+fn a_digest_of_another_kind_may_stand_once(rt: HostRuntime) -> Result<(), Fail> {
     let once = b"\x84\xa4name\xa1a\xa7version\xa11\xa5build\xa10\xa3md5\xa1x";
-    let outcome = PackageRecord::read(rt.alloc(), &mut Cursor::new(once));
-    assert!(rt; outcome.is_ok_and(|record| record.view().md5().is_none()));
+    assert!(rt; md5_in(rt.alloc(), once)?.is_none());
     let twice = b"\x85\xa4name\xa1a\xa7version\xa11\xa5build\xa10\xa3md5\xa1x\xa3md5\xa1x";
-    let outcome = PackageRecord::read(rt.alloc(), &mut Cursor::new(twice));
-    assert_eq!(rt; in_parts(outcome), Some((Repeated, 32)));
+    let fault = fault_at(rt.alloc(), &mut Cursor::new(twice));
+    assert!(rt; fault == Some((Repeated, 32)));
+    Ok(())
 }
 
 #[test]

@@ -21,15 +21,23 @@ pub(crate) enum Key {
 pub(crate) fn key_of(text: &[u8]) -> Option<Key>
     ensures { key_there result ≡ key_of text.now }
 {
-    match text {
-        b"version" => Some(Key::Version),
-        b"build" => Some(Key::Build),
-        b"build_number" => Some(Key::BuildNumber),
-        b"channel" => Some(Key::Channel),
-        b"subdir" => Some(Key::Subdir),
-        b"md5" => Some(Key::Md5),
-        b"sha256" => Some(Key::Sha256),
-        b"fn" => Some(Key::File),
-        _ => None,
+    if text == b"version".as_slice() {
+        Some(Key::Version)
+    } else if text == b"build".as_slice() {
+        Some(Key::Build)
+    } else if text == b"build_number".as_slice() {
+        Some(Key::BuildNumber)
+    } else if text == b"channel".as_slice() {
+        Some(Key::Channel)
+    } else if text == b"subdir".as_slice() {
+        Some(Key::Subdir)
+    } else if text == b"md5".as_slice() {
+        Some(Key::Md5)
+    } else if text == b"sha256".as_slice() {
+        Some(Key::Sha256)
+    } else if text == b"fn".as_slice() {
+        Some(Key::File)
+    } else {
+        None
     }
 }

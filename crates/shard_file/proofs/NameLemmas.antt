@@ -98,10 +98,15 @@ rising_more xs name up behind k d low high = go (ltb (k + 1) (length xs)) refl
 
 -- ---- names that were met, with one more
 
+first_in_front : (a b c : Bool) → (a || (b || c)) ≡ (b || (a || c))
+first_in_front true true c = refl
+first_in_front true false c = refl
+first_in_front false b c = refl
+
 -- a name of the others
 pub more_others : (xs : List (Bor (List ℕ))) (keys : List (Bor (List ℕ))) (k : Bor (List ℕ)) (q : List ℕ)
     → (is_among xs q || list_any (is_name q) (insert_key name_cmp keys k)) ≡ (bytes_eq k.now q || (is_among xs q || list_any (is_name q) keys))
-more_others xs keys k q = ap (λ (b : Bool). is_among xs q || b) (has_more keys k q) ∙ or_swap (is_among xs q) (bytes_eq k.now q) (list_any (is_name q) keys)
+more_others xs keys k q = ap (λ (b : Bool). is_among xs q || b) (has_more keys k q) ∙ first_in_front (is_among xs q) (bytes_eq k.now q) (list_any (is_name q) keys)
 
 -- a name behind all is new, where there are no others
 pub new_behind : (xs keys : List (Bor (List ℕ))) (name : List ℕ) → IsRising xs → IsBehind name xs → length keys ≡ 0 → true ≡ not (is_among xs name || list_any (is_name name) keys)

@@ -1,35 +1,14 @@
 //! Records out of JSON values that borrow their text.
-use crate::{PackageRecord, is_data};
+use crate::json_rows::{Numbers, RECORDS, REFUSED, WHOLE, is_whole, numbers_of};
+use crate::{PackageRecord, RecordView, is_data};
 use json::{Scratch, Value};
 use std::alloc::Global;
 use std::test::Fail;
-
-fn record_in(alloc: Global, text: &str) -> Result<Option<PackageRecord>, Fail> {
-    let mut scratch = Scratch::new(alloc);
-    let value = Value::parse(alloc, text, &mut scratch)?;
-    Ok(PackageRecord::from_tree(alloc, &value)?)
-}
-
-fn record_of(alloc: Global, text: &str) -> Result<PackageRecord, Fail> {
-    match record_in(alloc, text)? {
-        Some(record) => Ok(record),
-        None => Err("no record".into()),
-    }
-}
 
 fn is_data_in(alloc: Global, text: &str) -> Result<bool, Fail> {
     let mut scratch = Scratch::new(alloc);
     let value = Value::parse(alloc, text, &mut scratch)?;
     Ok(is_data(&value))
-}
-
-// The record that the other reader of JSON gives for the same text.
-fn other_record_of(alloc: Global, text: &str) -> Result<PackageRecord, Fail> {
-    let value = serde_json::Value::from_str(alloc, text)?;
-    match PackageRecord::from_json(alloc, &value) {
-        Ok(record) => Ok(record),
-        Err(_) => Err("no record".into()),
-    }
 }
 
 // Values that are data, and values with a number out of range.
@@ -51,23 +30,23 @@ const NUMBERS: [(&str, bool); 12] = [
 #[test]
 fn data_has_no_number_out_of_range(rt: HostRuntime) -> Result<(), Fail> {
     for (text, expected) in NUMBERS {
-        assert_eq!(rt; is_data_in(rt.alloc(), text)?, expected, "{text}");
+        assert!(rt; is_data_in(rt.alloc(), text)? == expected, "{text}");
     }
     Ok(())
 }
 
-// Values that give no record.
-const REFUSED: [&str; 13] = [
-    "null",
-    "[]",
-    r#""name""#,
-    "{}",
-    r#"{"name":"x","version":"1"}"#,
-    r#"{"name":"x","build":"0"}"#,
-    r#"{"version":"1","build":"0"}"#,
-    r#"{"name":"x","version":1,"build":"0"}"#,
-    r#"{"name":"x","version":"1","build":null}"#,
-    r#"{"name":"x","name":["x"],"version":"1","build":"0"}"#,
+// The numbers of the record that a text is, if it is one.
+fn numbers_in(alloc: Global, text: &str) -> Result<Option<Numbers>, Fail> {
+    let mut scratch = Scratch::new(alloc);
+    let value = Value::parse(alloc, text, &mut scratch)?;
+    match PackageRecord::from_tree(alloc, &value)? {
+        Some(record) => Ok(Some(numbers_of(record.view()))),
+        None => Ok(None),
+    }
+}
+
+// Values with a number out of range, which this reader looks for.
+const OUT_OF_RANGE: [&str; 3] = [
     r#"{"name":"x","version":"1","build":"0","size":1e999}"#,
     r#"{"name":"x","version":"1","build":"0","other":{"deep":[true,-1e999]}}"#,
     r#"{"name":"x","version":"1","build":"0","size":1e999,"size":1}"#,
@@ -76,125 +55,34 @@ const REFUSED: [&str; 13] = [
 #[test]
 fn a_value_that_says_no_record_gives_none(rt: HostRuntime) -> Result<(), Fail> {
     for text in REFUSED {
-        let record = record_in(rt.alloc(), text)?;
-        assert!(rt; record.is_none(), "{text}");
+        assert!(rt; numbers_in(rt.alloc(), text)?.is_none(), "{text}");
+    }
+    for text in OUT_OF_RANGE {
+        assert!(rt; numbers_in(rt.alloc(), text)?.is_none(), "{text}");
     }
     Ok(())
-}
-
-// A record, its build number, how many texts depends and constrains have, and its size.
-const RECORDS: [(&str, u64, usize, usize, Option<u64>); 10] = [
-    (r#"{"name":"x","version":"1","build":"0"}"#, 0, 0, 0, None),
-    (
-        r#"{"name":"x","version":"1","build":"0","build_number":7,"depends":["a","b >=1"],"constrains":["c"],"size":18446744073709551615}"#,
-        7,
-        2,
-        1,
-        Some(u64::MAX),
-    ),
-    (
-        r#"{"name":"x","version":"1","build":"0","build_number":-0,"depends":["a",1],"size":18446744073709551616}"#,
-        0,
-        0,
-        0,
-        None,
-    ),
-    (
-        r#"{"name":"x","version":"1","build":"0","build_number":"7","depends":"a","constrains":{},"size":1.5}"#,
-        0,
-        0,
-        0,
-        None,
-    ),
-    (
-        r#"{"name":"x","version":"1","build":"0","build_number":1e3,"depends":[],"constrains":[null],"size":-1}"#,
-        0,
-        0,
-        0,
-        None,
-    ),
-    (
-        r#"{"name":"x","version":"1","build":"0","build_number":null,"depends":null,"constrains":null,"subdir":null,"md5":null,"sha256":null,"size":null,"timestamp":null,"license":null,"noarch":null}"#,
-        0,
-        0,
-        0,
-        None,
-    ),
-    (
-        r#"{"name":"x","version":"1","build":"0","size":1,"size":2}"#,
-        0,
-        0,
-        0,
-        Some(2),
-    ),
-    (
-        r#"{"depends":["a"],"depends":["b","c"],"size":1,"size":"2","name":1,"name":"x","version":"1","build":"0"}"#,
-        0,
-        2,
-        0,
-        None,
-    ),
-    (
-        r#"{"name":"x","version":"1","build":"0","other":{"size":3}}"#,
-        0,
-        0,
-        0,
-        None,
-    ),
-    (
-        r#"{"build":"0","build_number":10,"version":"1","name":"x","size":0,"subdir":7,"license":["BSD"]}"#,
-        10,
-        0,
-        0,
-        Some(0),
-    ),
-];
-
-// The build number of a record, how many texts depends and constrains have, and its size.
-fn numbers_of(record: &PackageRecord) -> (u64, usize, usize, Option<u64>) {
-    let view = record.view();
-    (
-        view.build_number(),
-        view.depends_len(),
-        view.constrains_len(),
-        view.size(),
-    )
 }
 
 #[test]
 fn an_optional_key_of_another_kind_counts_as_missing(rt: HostRuntime) -> Result<(), Fail> {
-    for (text, build_number, depends, constrains, size) in RECORDS {
-        let record = record_of(rt.alloc(), text)?;
-        let expected = (build_number, depends, constrains, size);
-        assert_eq!(rt; numbers_of(&record), expected, "{text}");
+    for (text, numbers) in RECORDS {
+        assert!(rt; numbers_in(rt.alloc(), text)? == Some(numbers), "{text}");
     }
     Ok(())
 }
 
-// All keys, with digests of either case.
-const WHOLE: &str =
-    r#"{"name":"X","version":"1.0","build":"py_0","build_number":1,"depends":["a","b >=1"],"constrains":["c"],"subdir":"noarch","md5":"000102030405060708090A0B0c0d0e0F","sha256":"000102030405060708090a0b0c0d0e0f101112131415161718191a1b1c1d1e1F","size":2,"timestamp":3,"license":"BSD","noarch":"python"}"#;
-
-const MD5: [u8; 16] = [0, 1, 2, 3, 4, 5, 6, 7, 8, 9, 10, 11, 12, 13, 14, 15];
+fn is_read_whole(alloc: Global) -> Result<bool, Fail> {
+    let mut scratch = Scratch::new(alloc);
+    let value = Value::parse(alloc, WHOLE, &mut scratch)?;
+    match PackageRecord::from_tree(alloc, &value)? {
+        Some(record) => Ok(is_whole(record.view())),
+        None => Ok(false),
+    }
+}
 
 #[test]
 fn all_keys_are_read(rt: HostRuntime) -> Result<(), Fail> {
-    let record = record_of(rt.alloc(), WHOLE)?;
-    let view = record.view();
-    assert_eq!(rt; view.name(), "X");
-    assert_eq!(rt; view.version(), "1.0");
-    assert_eq!(rt; view.build(), "py_0");
-    assert_eq!(rt; view.build_number(), 1);
-    assert_eq!(rt; view.depends_len(), 2);
-    assert_eq!(rt; view.depend(1), Some("b >=1"));
-    assert_eq!(rt; view.constrain(0), Some("c"));
-    assert_eq!(rt; view.subdir(), Some("noarch"));
-    assert_eq!(rt; view.md5(), Some(MD5));
-    assert!(rt; view.sha256().is_some());
-    assert_eq!(rt; view.size(), Some(2));
-    assert_eq!(rt; view.timestamp(), Some(3));
-    assert_eq!(rt; view.license(), Some("BSD"));
-    assert_eq!(rt; view.noarch(), Some("python"));
+    assert!(rt; is_read_whole(rt.alloc())?);
     Ok(())
 }
 
@@ -219,11 +107,20 @@ const DIGESTS: [(&str, bool); 5] = [
     (r#"{"name":"x","version":"1","build":"0","md5":16}"#, false),
 ];
 
+// Whether the md5 of a record is there.
+fn has_md5(alloc: Global, text: &str) -> Result<bool, Fail> {
+    let mut scratch = Scratch::new(alloc);
+    let value = Value::parse(alloc, text, &mut scratch)?;
+    match PackageRecord::from_tree(alloc, &value)? {
+        Some(record) => Ok(record.view().md5().is_some()),
+        None => Err("no record".into()),
+    }
+}
+
 #[test]
 fn a_digest_has_two_digits_a_byte(rt: HostRuntime) -> Result<(), Fail> {
     for (text, is_there) in DIGESTS {
-        let record = record_of(rt.alloc(), text)?;
-        assert_eq!(rt; record.view().md5().is_some(), is_there, "{text}");
+        assert!(rt; has_md5(rt.alloc(), text)? == is_there, "{text}");
     }
     Ok(())
 }
@@ -236,8 +133,7 @@ const BOTH: [&str; 4] = [
     r#"{"build":"\u0041","version":"1\n","name":"\u00e9","license":"\"","timestamp":1700000000000,"md5":"00"}"#,
 ];
 
-fn texts_agree(record: &PackageRecord, other: &PackageRecord) -> bool {
-    let (view, expected) = (record.view(), other.view());
+fn texts_agree(view: RecordView<'_>, expected: RecordView<'_>) -> bool {
     view.name() == expected.name()
         && view.version() == expected.version()
         && view.build() == expected.build()
@@ -245,19 +141,29 @@ fn texts_agree(record: &PackageRecord, other: &PackageRecord) -> bool {
         && view.license() == expected.license()
 }
 
-fn numbers_agree(record: &PackageRecord, other: &PackageRecord) -> bool {
-    let (view, expected) = (record.view(), other.view());
-    view.depends_len() == expected.depends_len()
-        && view.size() == expected.size()
+fn numbers_agree(view: RecordView<'_>, expected: RecordView<'_>) -> bool {
+    numbers_of(view) == numbers_of(expected)
         && view.timestamp() == expected.timestamp()
         && view.md5() == expected.md5()
         && view.sha256() == expected.sha256()
 }
 
+// Whether the other reader of JSON gives the same record.
+fn is_same_by_json(alloc: Global, text: &str, view: RecordView<'_>) -> Result<bool, Fail> {
+    let value = serde_json::Value::from_str(alloc, text)?;
+    match PackageRecord::from_json(alloc, &value) {
+        Ok(other) => { Ok(texts_agree(view, other.view()) && numbers_agree(view, other.view())) }
+        Err(_) => Ok(false),
+    }
+}
+
 fn readers_agree(alloc: Global, text: &str) -> Result<bool, Fail> {
-    let record = record_of(alloc, text)?;
-    let other = other_record_of(alloc, text)?;
-    Ok(texts_agree(&record, &other) && numbers_agree(&record, &other))
+    let mut scratch = Scratch::new(alloc);
+    let value = Value::parse(alloc, text, &mut scratch)?;
+    match PackageRecord::from_tree(alloc, &value)? {
+        Some(record) => is_same_by_json(alloc, text, record.view()),
+        None => Ok(false),
+    }
 }
 
 #[test]
