@@ -7,8 +7,8 @@ ghost use Rattle.gateway_words.specs.Ascii.{dot};
 
 use crate::fault::{ConstraintFault, VersionFault};
 use crate::operator::{Operator, Relation, operator_of};
-use byte_text::{before_last, drop_blanks, find, sign_len, skip_blanks};
 use crate::version::Version;
+use byte_text::{before_last, drop_blanks, find, sign_len, skip_blanks};
 
 // What a leaf tests of a version: nothing, its relation to another one, or both halves of `~=`.
 #[derive(Clone, Copy)]

@@ -222,8 +222,16 @@ mod tests {
     // its time is refused.
     #[test]
     fn a_request_has_its_time(rt: HostRuntime) -> Result<(), Fail> {
-        assert!(rt; begun_before(&rt, MOST_SECONDS - 2)?.write(&rt, b"a").is_ok());
-        assert!(rt; begun_before(&rt, MOST_SECONDS + 1)?.write(&rt, b"a").is_err());
+        assert!(rt;
+            begun_before(&rt, MOST_SECONDS - 2)?
+                .write(&rt, b"a")
+                .is_ok()
+        );
+        assert!(rt;
+            begun_before(&rt, MOST_SECONDS + 1)?
+                .write(&rt, b"a")
+                .is_err()
+        );
         Ok(())
     }
 }

@@ -79,4 +79,3 @@ fn number_of(text: &[u8]) -> Option<u64>
     }
     decimal(text)
 }
-

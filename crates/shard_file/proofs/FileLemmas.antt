@@ -1,24 +1,18 @@
 -- A map of files is read right.
-use Rattle.std.proofs.Common.{◌≡◌, refl, sym, ◌∙◌, ap, ℕ, ◌⊎◌, inl, inr, Bool, true, false, cond, ◌||◌, List, [], ◌∷◌, ◌++◌, map, arith}
+use Rattle.std.proofs.Common.{◌≡◌, refl, sym, ◌∙◌, ap, ℕ, Bool, true, false, cond, ◌||◌, List, [], ◌∷◌, ◌++◌, map}
 use Rattle.std.specs.Prelude.{Option, Some, unwrap_or, is_some}
-use Rattle.std.specs.Str.{bytes_eq, is_utf8}
+use Rattle.std.specs.Str.{bytes_eq}
 use Rattle.gateway_words.specs.Places.{Position}
-use Rattle.mp_codec.specs.declared.fault.FormatFault.{FormatFault}
-use Rattle.mp_codec.specs.declared.fault.FaultKind.TheVariants as kind
 use Rattle.mp_codec.specs.Value.{Value, Pairs, pairs_of, str_of}
-use Rattle.mp_codec.specs.Spelling.{Lies}
-use Rattle.mp_codec.specs.Fault.{Faults, no_fault, fault_here, TextFault, PairsFault}
+use Rattle.mp_codec.specs.Fault.{no_fault, PairsFault}
 use Rattle.mp_codec.specs.Keys.{has_bytes, is_key, value_at, has_key}
-use Rattle.mp_codec.specs.Maps.{text_from}
 use Rattle.mp_codec.proofs.NameMapLemmas.{AllStrs, IsName, NameFault, map_more, name_judged, names_behind, strs_more}
 use Rattle.mp_codec.proofs.JudgingLemmas.{StandBehind, JudgesOne}
-use Rattle.mp_codec.proofs.LeafLemmas.{IsText}
 use Rattle.mp_codec.proofs.MapLemmas.{mapped, JudgesEnd, pairs_behind, entries_judged, map_judged, map_behind}
 use Rattle.conda_record.specs.Record.{Fields, RecordFault}
 use Rattle.conda_record.specs.Reading.{record_from}
 use Rattle.conda_record.proofs.RecordLemmas.{IsRecord, record_judged, record_behind}
 use Rattle.shard_file.specs.Rows.{Row, row_of, files_rules, FilesFault}
-use Rattle.mp_codec.specs.Names.{new_name_from}
 use Rattle.shard_file.specs.Reading.{has_file, file_key_from, file_value_from, file_end_from, files_after, files_from}
 
 -- ---- what is known of the files in front

@@ -1,5 +1,5 @@
 -- Names that were met, and a name that is none of them.
-use Rattle.std.specs.Prelude.{◌≡◌, ℕ, ◌-◌, Bool, true, ◌||◌, List, Ok, Err, if◌then◌else◌, length, slice_get, IfSome}
+use Rattle.std.specs.Prelude.{◌≡◌, ℕ, ◌-◌, Bool, true, ◌||◌, List, length, slice_get, IfSome}
 use Rattle.std.specs.Ordering.{is_lt, nat_cmp}
 use Rattle.std.specs.List.{list_any}
 use Rattle.std.specs.List.Sorted.{IsSortedBy}
@@ -7,11 +7,6 @@ use Rattle.std.specs.Str.{bytes_eq}
 use Rattle.std.specs.Borrow.{Bor}
 use Rattle.std.specs.Cmp.Lexicographic.{slice_cmp}
 use Rattle.std.specs.BTreeSet.{contains_by}
-use Rattle.gateway_words.specs.Places.{Position}
-use Rattle.gateway_words.specs.Reading.{◌>>=◌}
-use Rattle.mp_codec.specs.declared.fault.FaultKind.TheVariants as kind
-use Rattle.mp_codec.specs.Fault.{fault_here}
-use Rattle.mp_codec.specs.Maps.{Read, text_from}
 use Rattle.shard_file.specs.declared.names.Names.{Names}
 
 -- the first name is below the second, by bytes

@@ -1,17 +1,14 @@
 -- Which bytes are a shard, what its rows are, and what may be wrong with it (CEP 16, "shards").
-use Rattle.std.specs.Prelude.{◌≡◌, ◌⊎◌, ℕ, Bool, true, false, List, [], ◌∷◌, ◌++◌, Option, Some, None, map, unwrap_or, codes}
+use Rattle.std.specs.Prelude.{◌≡◌, ℕ, Bool, true, false, List, [], ◌∷◌, ◌++◌, Option, Some, None, map, unwrap_or, codes}
 use Rattle.std.specs.Ordering.{is_lt, nat_cmp}
 use Rattle.std.specs.Cmp.Lexicographic.{slice_cmp}
-use Rattle.std.specs.Str.{is_utf8}
 use Rattle.std.specs.List.Sorted.{IsSortedBy, IsStableBy}
-use Rattle.gateway_words.specs.Places.{Position}
 use Rattle.mp_codec.specs.declared.fault.FormatFault.{FormatFault}
-use Rattle.mp_codec.specs.declared.fault.FaultKind.TheVariants as kind
-use Rattle.mp_codec.specs.Value.{Value, Pairs, pairs_of, str_of}
-use Rattle.mp_codec.specs.Spelling.{Spells, Lies}
-use Rattle.mp_codec.specs.Fault.{Faults, no_fault, fault_here, TextFault, MapRules, MapFault, BytesFault}
+use Rattle.mp_codec.specs.Value.{Value, pairs_of, str_of}
+use Rattle.mp_codec.specs.Spelling.{Spells}
+use Rattle.mp_codec.specs.Fault.{Faults, no_fault, MapRules, MapFault, BytesFault}
 use Rattle.mp_codec.specs.Names.{names_rules}
-use Rattle.mp_codec.specs.Keys.{is_one_of, value_at, has_key, RepeatedKey}
+use Rattle.mp_codec.specs.Keys.{is_one_of, value_at, RepeatedKey}
 use Rattle.conda_record.specs.Record.{Fields, fields_of, RecordFault}
 
 -- ---- what a shard says

@@ -1,7 +1,7 @@
 use Rattle.std.proofs.Common.{sym, ◌∙◌, ap}
 use Rattle.shard_file.specs.Spans.{rows_at}
 use Rattle.shard_file.specs.Reading.{shard_of}
-use Rattle.shard_file.proofs.ShardLemmas.{shard_says, says_shard, shard_faults, one_shard}
+use Rattle.shard_file.proofs.ShardLemmas.{shard_says, shard_faults, one_shard}
 use Rattle.shard_file.proofs.shard.Shard.read.Goals as goal
 
 pub returns-in-Ok-clause-found : goal.returns-in-Ok-clause-found
