@@ -104,46 +104,6 @@ fn knows_store_names(rt: HostRuntime) {
     assert!(rt; !is_shard_name(INDEX));
 }
 
-// The calls of a store, for names that are store names.
-
-fn get<S: Store>(
-    alloc: Global,
-    store: &mut S,
-    name: &str,
-    limit: u64,
-) -> Result<Result<Got, StoreRefusal>, &'static str> {
-    if is_store_name(name) {
-        Ok(store.get(alloc, name, limit))
-    } else {
-        Err("no store name")
-    }
-}
-
-fn put<S: Store>(
-    alloc: Global,
-    store: &mut S,
-    name: &str,
-    bytes: &[u8],
-) -> Result<Result<(), StoreRefusal>, &'static str> {
-    if is_store_name(name) {
-        Ok(store.put(alloc, name, bytes))
-    } else {
-        Err("no store name")
-    }
-}
-
-fn remove<S: Store>(
-    alloc: Global,
-    store: &mut S,
-    name: &str,
-) -> Result<Result<(), StoreRefusal>, &'static str> {
-    if is_store_name(name) {
-        Ok(store.remove(alloc, name))
-    } else {
-        Err("no store name")
-    }
-}
-
 fn store(alloc: Global, fails: &[u64], fails_from: Option<u64>) -> Result<MemStore, Fail> {
     let mut files = Vec::new(alloc);
     files.push((Text::copy(alloc, INPUT)?, b"first".to_vec(alloc)?))?;
@@ -162,6 +122,34 @@ fn told(got: &Result<Got, StoreRefusal>) -> &str {
     }
 }
 
+// Whether a get of a store name gives this.
+fn gives<S: Store>(alloc: Global, store: &mut S, name: &str, limit: u64, expected: &str) -> bool {
+    is_store_name(name) && told(&store.get(alloc, name, limit)) == expected
+}
+
+// Whether a put at a store name answers this.
+fn puts<S: Store>(
+    alloc: Global,
+    store: &mut S,
+    name: &str,
+    bytes: &[u8],
+    expected: Result<(), StoreRefusal>,
+) -> bool {
+    is_store_name(name) && store.put(alloc, name, bytes) == expected
+}
+
+// Whether a removal of a store name answers this.
+fn removes<S: Store>(
+    alloc: Global,
+    store: &mut S,
+    name: &str,
+    expected: Result<(), StoreRefusal>,
+) -> bool {
+    is_store_name(name) && store.remove(alloc, name) == expected
+}
+
+const FAILED: Result<(), StoreRefusal> = Err(StoreRefusal::Failed);
+
 // A name, a limit, and what stands there.
 const GETS: [(&str, u64, &str); 5] = [
     (INPUT, MOST, "first"),
@@ -175,42 +163,53 @@ const GETS: [(&str, u64, &str); 5] = [
 fn gets_what_stands_within_the_limit(rt: HostRuntime) -> Result<(), Fail> {
     let mut store = store(rt.alloc(), &[], None)?;
     for (name, limit, expected) in GETS {
-        let got = get(rt.alloc(), &mut store, name, limit)?;
-        assert_eq!(rt; told(&got), expected, "{name} within {limit}");
+        assert!(rt;
+            gives(rt.alloc(), &mut store, name, limit, expected),
+            "{name} within {limit}"
+        );
     }
     Ok(())
+}
+
+// Whether a store in memory has these bytes at a name.
+fn holds(store: &MemStore, name: &str, bytes: &[u8]) -> bool {
+    match store.file(name) {
+        Some(file) => file == bytes,
+        None => false,
+    }
 }
 
 #[test]
 fn puts_and_takes_away(rt: HostRuntime) -> Result<(), Fail> {
     let alloc = rt.alloc();
     let mut store = store(alloc, &[], None)?;
-    assert_eq!(rt; put(alloc, &mut store, INPUT, b"second")?, Ok(()));
-    assert_eq!(rt; put(alloc, &mut store, SHARD, b"new")?, Ok(()));
-    assert_eq!(rt; store.file(INPUT).ok_or("no file")?, b"second".as_slice());
-    assert_eq!(rt; store.file(SHARD).ok_or("no file")?, b"new".as_slice());
-    assert_eq!(rt; store.file(INDEX).ok_or("no file")?, b"".as_slice());
+    assert!(rt; puts(alloc, &mut store, INPUT, b"second", Ok(())));
+    assert!(rt; puts(alloc, &mut store, SHARD, b"new", Ok(())));
+    assert!(rt; holds(&store, INPUT, b"second"));
+    assert!(rt; holds(&store, SHARD, b"new"));
+    assert!(rt; holds(&store, INDEX, b""));
     for name in [INPUT, INDEX, SHARD, "d/noarch/repodata.json"] {
-        assert_eq!(rt; remove(alloc, &mut store, name)?, Ok(()), "{name}");
+        assert!(rt; removes(alloc, &mut store, name, Ok(())), "{name}");
         assert!(rt; store.file(name).is_none(), "{name}");
     }
     Ok(())
 }
 
 // The numbers of the calls that fail, the number from which on all do, and what six gets give.
+const SCRIPTS: [(&[u64], Option<u64>, [bool; 6]); 4] = [
+    (&[], None, [false; 6]),
+    (&[0, 3], None, [true, false, false, true, false, false]),
+    (&[1], Some(4), [false, true, false, false, true, true]),
+    (&[], Some(0), [true; 6]),
+];
+
 #[test]
 fn fails_where_the_script_says(rt: HostRuntime) -> Result<(), Fail> {
-    let alloc = rt.alloc();
-    for (fails, from, expected) in [
-        ([].as_slice(), None, [false; 6]),
-        (&[0, 3], None, [true, false, false, true, false, false]),
-        (&[1], Some(4), [false, true, false, false, true, true]),
-        (&[], Some(0), [true; 6]),
-    ] {
-        let mut store = store(alloc, fails, from)?;
+    for (fails, from, expected) in SCRIPTS {
+        let mut store = store(rt.alloc(), fails, from)?;
         for failed in expected {
-            let got = get(alloc, &mut store, INPUT, MOST)?;
-            assert_eq!(rt; told(&got), if failed { "failed" } else { "first" });
+            let wanted = if failed { "failed" } else { "first" };
+            assert!(rt; gives(rt.alloc(), &mut store, INPUT, MOST, wanted));
         }
     }
     Ok(())
@@ -220,32 +219,43 @@ fn fails_where_the_script_says(rt: HostRuntime) -> Result<(), Fail> {
 fn a_call_that_fails_changes_nothing_in_memory(rt: HostRuntime) -> Result<(), Fail> {
     let alloc = rt.alloc();
     let mut store = store(alloc, &[], Some(0))?;
-    let refused = Err(StoreRefusal::Failed);
-    assert_eq!(rt; put(alloc, &mut store, INPUT, b"second")?, refused);
-    assert_eq!(rt; remove(alloc, &mut store, INPUT)?, refused);
-    assert_eq!(rt; store.file(INPUT).ok_or("no file")?, b"first".as_slice());
+    assert!(rt; puts(alloc, &mut store, INPUT, b"second", FAILED));
+    assert!(rt; removes(alloc, &mut store, INPUT, FAILED));
+    assert!(rt; holds(&store, INPUT, b"first"));
     Ok(())
 }
 
+// Whether a name that isn't taken takes one text after the other, and is free again.
+fn takes_and_gives_back<S: Store>(alloc: Global, store: &mut S, name: &str) -> bool {
+    gives(alloc, store, name, MOST, "absent")
+        && takes(alloc, store, name, "one")
+        && takes(alloc, store, name, "another")
+        && gives(alloc, store, name, 6, "long")
+        && is_freed(alloc, store, name)
+        && is_freed(alloc, store, name)
+}
+
+fn takes<S: Store>(alloc: Global, store: &mut S, name: &str, text: &str) -> bool {
+    puts(alloc, store, name, text.as_bytes(), Ok(())) && gives(alloc, store, name, 7, text)
+}
+
+fn is_freed<S: Store>(alloc: Global, store: &mut S, name: &str) -> bool {
+    removes(alloc, store, name, Ok(())) && gives(alloc, store, name, MOST, "absent")
+}
+
+const KEPT: [&str; 2] = [
+    "made-by-a-test/noarch/shards/0123456789abcdef0123456789abcdef0123456789abcdef0123456789abcdef.msgpack",
+    "made-by-a-test/noarch/repodata_shards.msgpack",
+];
+
 #[test]
 fn a_folder_keeps_whole_files(rt: HostRuntime) -> Result<(), Fail> {
-    let alloc = rt.alloc();
     let mut store = FolderStore::new(rt);
-    let shard =
-        "made-by-a-test/noarch/shards/0123456789abcdef0123456789abcdef0123456789abcdef0123456789abcdef.msgpack";
-    let index = "made-by-a-test/noarch/repodata_shards.msgpack";
-    for name in [shard, index] {
-        assert_eq!(rt; told(&get(alloc, &mut store, name, MOST)?), "absent");
-        for text in ["one", "another"] {
-            assert_eq!(rt; put(alloc, &mut store, name, text.as_bytes())?, Ok(()));
-            assert_eq!(rt; told(&get(alloc, &mut store, name, MOST)?), text);
-        }
-        assert_eq!(rt; told(&get(alloc, &mut store, name, 6)?), "long");
-        assert_eq!(rt; told(&get(alloc, &mut store, name, 7)?), "another");
-        for _ in 0..2 {
-            assert_eq!(rt; remove(alloc, &mut store, name)?, Ok(()));
-            assert_eq!(rt; told(&get(alloc, &mut store, name, MOST)?), "absent");
-        }
+    for name in KEPT {
+        assert!(rt;
+            takes_and_gives_back(rt.alloc(), &mut store, name),
+            "{name}"
+        );
     }
     assert!(rt; !fs::exists(&rt, "made-by-a-test/noarch/0.temporary")?);
     assert!(rt; !fs::exists(&rt, "made-by-a-test/noarch/shards/0.temporary")?);
@@ -253,26 +263,41 @@ fn a_folder_keeps_whole_files(rt: HostRuntime) -> Result<(), Fail> {
     Ok(())
 }
 
+// Whether nothing can be read or written at a name.
+fn is_closed<S: Store>(alloc: Global, store: &mut S, name: &str) -> bool {
+    gives(alloc, store, name, MOST, "failed") && puts(alloc, store, name, b"", FAILED)
+}
+
 #[test]
 fn a_folder_is_no_file_and_a_file_no_folder(rt: HostRuntime) -> Result<(), Fail> {
-    let alloc = rt.alloc();
     let mut store = FolderStore::new(rt);
     let index = "no-file/noarch/repodata_shards.msgpack";
     fs::create_dir_all(&rt, index)?;
-    assert_eq!(rt; told(&get(alloc, &mut store, index, MOST)?), "failed");
-    assert_eq!(rt;
-        put(alloc, &mut store, index, b"")?,
-        Err(StoreRefusal::Failed)
-    );
+    assert!(rt; is_closed(rt.alloc(), &mut store, index));
     assert!(rt; !fs::exists(&rt, "no-file/noarch/0.temporary")?);
     fs::write(&rt, "no-file/osx-64", b"a file")?;
-    let below = "no-file/osx-64/repodata_shards.msgpack";
-    assert_eq!(rt; told(&get(alloc, &mut store, below, MOST)?), "failed");
-    assert_eq!(rt;
-        put(alloc, &mut store, below, b"")?,
-        Err(StoreRefusal::Failed)
+    assert!(rt;
+        is_closed(
+            rt.alloc(),
+            &mut store,
+            "no-file/osx-64/repodata_shards.msgpack"
+        )
     );
     fs::remove_dir_all(&rt, "no-file")?;
+    Ok(())
+}
+
+// Whether a file of the system has these bytes.
+fn is_file_of(rt: &HostRuntime, path: &str, bytes: &[u8]) -> Result<bool, Fail> {
+    Ok(fs::read(rt, path)?.as_slice() == bytes)
+}
+
+// A folder with a link at an index's name and one at that of a temporary file.
+fn link(rt: &HostRuntime, index: &str) -> Result<(), Fail> {
+    fs::create_dir_all(rt, "links/noarch")?;
+    fs::write(rt, "links/elsewhere", b"kept")?;
+    symlink(rt, "../elsewhere", index)?;
+    symlink(rt, "../elsewhere", "links/noarch/0.temporary")?;
     Ok(())
 }
 
@@ -280,53 +305,51 @@ fn a_folder_is_no_file_and_a_file_no_folder(rt: HostRuntime) -> Result<(), Fail>
 // point to stays as it was.
 #[test]
 fn no_link_is_followed_by_a_put(rt: HostRuntime) -> Result<(), Fail> {
-    let alloc = rt.alloc();
     let mut store = FolderStore::new(rt);
     let index = "links/noarch/repodata_shards.msgpack";
-    fs::create_dir_all(&rt, "links/noarch")?;
-    fs::write(&rt, "links/elsewhere", b"kept")?;
-    symlink(&rt, "../elsewhere", index)?;
-    symlink(&rt, "../elsewhere", "links/noarch/0.temporary")?;
-    assert_eq!(rt; told(&get(alloc, &mut store, index, MOST)?), "kept");
-    assert_eq!(rt; put(alloc, &mut store, index, b"new")?, Ok(()));
-    assert_eq!(rt; told(&get(alloc, &mut store, index, MOST)?), "new");
+    link(&rt, index)?;
+    assert!(rt; gives(rt.alloc(), &mut store, index, MOST, "kept"));
+    assert!(rt; takes(rt.alloc(), &mut store, index, "new"));
     assert!(rt; fs::symlink_metadata(&rt, index)?.is_file());
     assert!(rt; fs::symlink_metadata(&rt, "links/noarch/0.temporary")?.is_symlink());
-    assert_eq!(rt;
-        fs::read(&rt, "links/elsewhere")?.as_slice(),
-        b"kept".as_slice()
-    );
+    assert!(rt; is_file_of(&rt, "links/elsewhere", b"kept")?);
     fs::remove_dir_all(&rt, "links")?;
+    Ok(())
+}
+
+const LEFT: [&str; 2] = ["left/noarch/0.temporary", "left/noarch/shards/7.temporary"];
+
+const HELD: &str = "left/noarch/shards/0.temporary";
+
+// A folder with temporary files that runs left, and one that is there to be held.
+fn leave(rt: &HostRuntime) -> Result<(), Fail> {
+    fs::create_dir_all(rt, "left/noarch/shards")?;
+    for path in LEFT {
+        fs::write(rt, path, b"a part")?;
+    }
+    fs::write(rt, HELD, b"a part")?;
     Ok(())
 }
 
 // What a killed run left is removed, and what a living one holds is not.
 #[test]
 fn temporary_files_that_were_left_are_removed(rt: HostRuntime) -> Result<(), Fail> {
-    let alloc = rt.alloc();
     let mut store = FolderStore::new(rt);
-    fs::create_dir_all(&rt, "left/noarch/shards")?;
-    let left = ["left/noarch/0.temporary", "left/noarch/shards/7.temporary"];
-    for path in left {
-        fs::write(&rt, path, b"a part")?;
-    }
-    let held = "left/noarch/shards/0.temporary";
-    fs::write(&rt, held, b"a part")?;
-    let living = File::open(&rt, held)?;
+    leave(&rt)?;
+    let living = File::open(&rt, HELD)?;
     living.try_lock()?;
-    assert_eq!(rt;
-        put(
-            alloc,
+    assert!(rt;
+        takes(
+            rt.alloc(),
             &mut store,
             "left/noarch/repodata_shards.msgpack",
-            b"new"
-        )?,
-        Ok(())
+            "new"
+        )
     );
-    for path in left {
+    for path in LEFT {
         assert!(rt; !fs::exists(&rt, path)?, "{path}");
     }
-    assert_eq!(rt; fs::read(&rt, held)?.as_slice(), b"a part".as_slice());
+    assert!(rt; is_file_of(&rt, HELD, b"a part")?);
     fs::remove_dir_all(&rt, "left")?;
     Ok(())
 }
