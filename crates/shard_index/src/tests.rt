@@ -148,55 +148,73 @@ const TWO_NAMES: &[u8] = b"\x85\xa1x\x91\xa1y\xa7version\xcc\x01\xa4info\x85\xa8
     \xa1b\xc4\x20abcdefghijklmnopqrstuvwxyz012345\
     \xa1a\xd9\x40BA7816BF8F01CFeA414140de5dae2223b00361a396177a9cb410ff61f20015ad\x01\x02";
 
-// The kind and the place of the fault that was answered.
-fn in_parts(outcome: Result<Index, IndexRefusal>) -> Option<(FaultKind, u64)> {
-    match outcome {
+// The kind and the place of the fault that is answered for some bytes.
+fn fault_of(alloc: Global, bytes: &[u8]) -> Option<(FaultKind, u64)> {
+    match Index::read(alloc, bytes) {
         Err(IndexRefusal::Fault(fault)) => Some((fault.kind, fault.at)),
         Err(IndexRefusal::Memory) | Ok(_) => None,
     }
 }
 
-// The index that the bytes are.
-fn read(alloc: Global, bytes: &[u8]) -> Result<Index, Fail> {
+// Whether bytes are an index without names, with what counts where a part is missing.
+fn has_defaults(alloc: Global, bytes: &[u8]) -> bool {
     match Index::read(alloc, bytes) {
-        Ok(index) => Ok(index),
-        Err(_) => Err("it is refused".into()),
+        Ok(index) => {
+            index.len() == 0
+                && index.base_url() == "./"
+                && index.shards_base_url() == "./shards/"
+                && index.subdir() == ""
+                && index.lookup("").is_none()
+        }
+        Err(_) => false,
     }
 }
 
 #[test]
-fn missing_parts_have_defaults(rt: HostRuntime) -> Result<(), Fail> {
-    let index = read(rt.alloc(), b"\x81\xa6shards\x80")?;
-    assert_eq!(rt; index.len(), 0);
-    assert_eq!(rt; index.base_url(), "./");
-    assert_eq!(rt; index.shards_base_url(), "./shards/");
-    assert_eq!(rt; index.subdir(), "");
-    assert!(rt; index.lookup("").is_none());
-    Ok(())
+fn missing_parts_have_defaults(rt: HostRuntime) {
+    assert!(rt; has_defaults(rt.alloc(), b"\x81\xa6shards\x80"));
+}
+
+// Whether `TWO_NAMES` says what it should, names apart.
+fn has_two_names(alloc: Global) -> bool {
+    match Index::read(alloc, TWO_NAMES) {
+        Ok(index) => {
+            index.len() == 2
+                && index.base_url() == "./"
+                && index.shards_base_url() == "s/x"
+                && index.subdir() == ""
+        }
+        Err(_) => false,
+    }
+}
+
+// The digest that an index lists for a name.
+fn listed(alloc: Global, bytes: &[u8], name: &str) -> Option<Digest> {
+    match Index::read(alloc, bytes) {
+        Ok(index) => index.lookup(name),
+        Err(_) => None,
+    }
 }
 
 #[test]
-fn names_are_found_by_their_bytes(rt: HostRuntime) -> Result<(), Fail> {
-    let index = read(rt.alloc(), TWO_NAMES)?;
-    assert_eq!(rt; index.len(), 2);
-    assert_eq!(rt; index.base_url(), "./");
-    assert_eq!(rt; index.shards_base_url(), "s/x");
-    assert_eq!(rt; index.subdir(), "");
-    assert!(rt; index.lookup("a") == Some(Digest::of(b"abc")));
-    assert!(rt; index.lookup("b") == Some(Digest(*b"abcdefghijklmnopqrstuvwxyz012345")));
+fn names_are_found_by_their_bytes(rt: HostRuntime) {
+    assert!(rt; has_two_names(rt.alloc()));
+    assert!(rt; listed(rt.alloc(), TWO_NAMES, "a") == Some(Digest::of(b"abc")));
+    let digest = Digest(*b"abcdefghijklmnopqrstuvwxyz012345");
+    assert!(rt; listed(rt.alloc(), TWO_NAMES, "b") == Some(digest));
     for name in ["", "A", "aa", "c"] {
-        assert!(rt; index.lookup(name).is_none(), "{name}");
+        assert!(rt; listed(rt.alloc(), TWO_NAMES, name).is_none(), "{name}");
     }
-    Ok(())
 }
 
 #[test]
-fn answers_each_fault_with_its_place(rt: HostRuntime) -> Result<(), Fail> {
+fn answers_each_fault_with_its_place(rt: HostRuntime) {
     for (bytes, kind, at) in FAULTS {
-        let outcome = Index::read(rt.alloc(), bytes);
-        assert_eq!(rt; in_parts(outcome), Some((kind, at)), "{bytes:?}");
+        assert!(rt;
+            fault_of(rt.alloc(), bytes) == Some((kind, at)),
+            "{bytes:?}"
+        );
     }
-    Ok(())
 }
 
 // The index of no names of the subdir `noarch`, up to the number of names, 76 bytes with it.
@@ -217,34 +235,46 @@ fn row(alloc: Global, name: &str, bytes: &[u8]) -> Result<IndexRow, Fail>
     }
 }
 
+// The index of no names.
+fn no_names(alloc: Global) -> Result<Vec<u8>, Fail> {
+    let mut out = Vec::new(alloc);
+    write_index("noarch", &[], &mut out)?;
+    Ok(out)
+}
+
 #[test]
 fn an_index_without_names_has_76_bytes(rt: HostRuntime) -> Result<(), Fail> {
-    let mut out = Vec::new(rt.alloc());
-    write_index("noarch", &[], &mut out)?;
-    let mut expected = NOARCH.to_vec(rt.alloc())?;
-    expected.push(0x80)?;
-    assert_eq!(rt; out.len(), 76);
-    assert_eq!(rt; out.as_slice(), expected.as_slice());
+    let out = no_names(rt.alloc())?;
+    assert!(rt; out.len() == 76);
+    assert!(rt; out.as_slice().strip_prefix(NOARCH) == Some(b"\x80".as_slice()));
     Ok(())
+}
+
+// The index of two names.
+fn two_names(alloc: Global) -> Result<Vec<u8>, Fail> {
+    let mut rows = Vec::new(alloc);
+    rows.push(row(alloc, "a", b"abc")?)?;
+    rows.push(row(alloc, "b", b"")?)?;
+    let mut out = Vec::new(alloc);
+    write_index("noarch", &rows, &mut out)?;
+    Ok(out)
+}
+
+// What it should be.
+fn spelled(alloc: Global) -> Result<Vec<u8>, Fail> {
+    let mut bytes = NOARCH.to_vec(alloc)?;
+    bytes.extend_from_slice(b"\x82\xa1a\xc4\x20")?;
+    bytes.extend_from_slice(&Digest::of(b"abc").0)?;
+    bytes.extend_from_slice(b"\xa1b\xc4\x20")?;
+    bytes.extend_from_slice(&Digest::of(b"").0)?;
+    Ok(bytes)
 }
 
 #[test]
 fn what_is_written_is_read(rt: HostRuntime) -> Result<(), Fail> {
-    let mut rows = Vec::new(rt.alloc());
-    rows.push(row(rt.alloc(), "a", b"abc")?)?;
-    rows.push(row(rt.alloc(), "b", b"")?)?;
-    let mut out = b"kept".to_vec(rt.alloc())?;
-    write_index("noarch", &rows, &mut out)?;
-    let mut expected = b"kept".to_vec(rt.alloc())?;
-    expected.extend_from_slice(NOARCH)?;
-    expected.extend_from_slice(b"\x82\xa1a\xc4\x20")?;
-    expected.extend_from_slice(&Digest::of(b"abc").0)?;
-    expected.extend_from_slice(b"\xa1b\xc4\x20")?;
-    expected.extend_from_slice(&Digest::of(b"").0)?;
-    assert_eq!(rt; out.as_slice(), expected.as_slice());
-    let index = read(rt.alloc(), out.get(4..).unwrap_or_default())?;
-    assert_eq!(rt; index.len(), 2);
-    assert_eq!(rt; index.subdir(), "noarch");
-    assert!(rt; index.lookup("b") == Some(Digest::of(b"")));
+    let out = two_names(rt.alloc())?;
+    assert!(rt; out.as_slice() == spelled(rt.alloc())?.as_slice());
+    assert!(rt; listed(rt.alloc(), &out, "a") == Some(Digest::of(b"abc")));
+    assert!(rt; listed(rt.alloc(), &out, "b") == Some(Digest::of(b"")));
     Ok(())
 }

@@ -1,6 +1,6 @@
 use Rattle.std.proofs.Common.{arith, codes}
 use Rattle.shard_index.proofs.WrittenLemmas.{none_writable}
-use Rattle.shard_index.proofs.tests.an_index_without_names_has_76_bytes.Goals as goal
+use Rattle.shard_index.proofs.tests.no_names.Goals as goal
 
 pub write_index-requires : goal.write_index-requires
-write_index-requires g c = none_writable (codes "noarch") (omega arith)
+write_index-requires c = none_writable (codes "noarch") (omega arith)

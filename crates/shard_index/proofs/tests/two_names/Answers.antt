@@ -5,10 +5,10 @@ use Rattle.std.specs.declared.cmp.Ordering.TheVariants.{Less}
 use Rattle.shard_index.specs.Index.{Listed}
 use Rattle.shard_index.specs.Writing.{IsShort, IsWritable}
 use Rattle.shard_index.proofs.WrittenLemmas.{two_writable}
-use Rattle.shard_index.proofs.tests.what_is_written_is_read.Goals as goal
+use Rattle.shard_index.proofs.tests.two_names.Goals as goal
 
 pub write_index-requires : goal.write_index-requires
-write_index-requires g c =
+write_index-requires c =
     let x : Listed = c.in_ok-row.field-0 in
     let y : Listed = c.in_ok-row-2.field-0 in
     let are : c.deref.result.now ≡ x ∷ y ∷ [] =
