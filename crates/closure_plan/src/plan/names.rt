@@ -1,22 +1,21 @@
-//! The names that a shard reaches, and the order of names.
+//! The names that a shard reaches.
 
-ghost use Rattle.std.specs.Prelude.{◌≡◌, ◌<◌, ◌≤◌, ◌||◌, ◌++◌, ◌∷◌, [], List, ℕ, Ok, map, length, slice_get, IfOk, OnOk, IfSome, IfNone};
-ghost use Rattle.std.specs.List.{filter, flat_map, insert};
+ghost use Rattle.std.specs.Prelude.{◌≡◌, ◌<◌, ◌||◌, ◌∷◌, [], Ok, length, slice_get, IfOk, OnOk};
+ghost use Rattle.std.specs.List.{filter, flat_map};
 ghost use Rattle.conda_name.specs.Name.{lower_case, name_of};
 ghost use Rattle.conda_record.specs.View.{seen};
-ghost use Rattle.closure_plan.specs.Names.{has_name, is_name, with_name};
+ghost use Rattle.closure_plan.specs.Names.{has_name, is_name};
 ghost use Rattle.closure_plan.specs.Given.{deps_if, deps_of, given_of, gives, names_if, names_of_text};
-ghost use Rattle.closure_plan.specs.Fresh.{Grows, IsOrder};
+ghost use Rattle.closure_plan.specs.Fresh.{Grows};
 ghost use Rattle.closure_plan.specs.Giving.{reached_by};
-ghost use Rattle.closure_plan.specs.Plan.{name_at};
 
 use crate::holders::{LeafHolder, PinHolder};
 use crate::plan::Plan;
+use crate::plan::order::search;
 use conda_name::{Name, dependency_name};
 use conda_record::RecordView;
 use shard_file::Shard;
 use std::alloc::{AllocError, Global};
-use std::cmp::Ordering;
 
 impl<P: PinHolder, H: LeafHolder> Plan<P, H> {
     // The names that a shard reaches and that aren't listed.
@@ -151,82 +150,7 @@ impl<P: PinHolder, H: LeafHolder> Plan<P, H> {
         ensures { result ≡ (has_name self.now.known.names name.now || has_name others.now
             name.now) }
     {
-        has(&self.names, name.as_str()) || has(others, name.as_str())
-    }
-
-    // The numbers of the names with some more behind them, by name.
-    pub(crate) fn order_with(&self, fresh: &[Name]) -> Result<Vec<usize>, AllocError>
-        ensures { IfOk result (λ order. IsOrder (self.now.known.names ++ fresh.now)
-            (self.now.known.names ++ fresh.now) order.items) }
-    {
-        let mut order = self.order_copy(fresh)?;
-        for i in 0..fresh.len() {
-            self.put(fresh, i, &mut order)?;
-        }
-        Ok(order)
-    }
-
-    // The numbers of the names, by name.
-    fn order_copy(&self, fresh: &[Name]) -> Result<Vec<usize>, AllocError>
-        ensures { IfOk result (λ order. IsOrder (self.now.known.names ++ fresh.now)
-            self.now.known.names order.items) }
-    {
-        Vec::from_slice(*self.names.allocator(), &self.order)
-    }
-
-    // Puts the number of one of the names behind the listed ones into its place.
-    fn put(&self, fresh: &[Name], i: usize, order: &mut Vec<usize>) -> Result<(), AllocError>
-        requires { i < length fresh.now }
-        ensures { OnOk result ((listed : List (List ℕ)) → IsOrder (self.now.known.names ++
-            fresh.now) listed order.old.items
-            → IsOrder (self.now.known.names ++ fresh.now) (listed ++ name_at fresh.now i ∷ [])
-            order.new.items) }
-    {
-        let number = self.names.len().checked_add(i).ok_or(AllocError)?;
-        match self.place(fresh, number, order) {
-            Some(at) => {
-                order.insert(at, number)?;
-                Ok(())
-            }
-            None => Ok(()),
-        }
-    }
-
-    // The name of a number, of the listed names and some behind them.
-    fn name_among<'a>(&'a self, fresh: &'a [Name], k: usize) -> &'a [u8]
-        ensures { result.now ≡ name_at (self.now.known.names ++ fresh.now) k }
-    {
-        if k < self.names.len() {
-            return self.names[k].as_str().as_bytes();
-        }
-        match fresh.get(k - self.names.len()) {
-            Some(name) => name.as_str().as_bytes(),
-            None => b"",
-        }
-    }
-
-    // Where a name goes among numbers of names, or None where it stands there.
-    fn place(&self, fresh: &[Name], number: usize, order: &[usize]) -> Option<usize>
-        ensures some { IfSome result (λ at. (at ≤ length order.now) × (with_name (name_at
-            (self.now.known.names ++ fresh.now) number)
-            (map (name_at (self.now.known.names ++ fresh.now)) order.now)
-            ≡ insert (map (name_at (self.now.known.names ++ fresh.now)) order.now) at (name_at
-            (self.now.known.names ++ fresh.now) number))) }
-        ensures none { IfNone result (with_name (name_at (self.now.known.names ++ fresh.now) number)
-            (map (name_at (self.now.known.names ++ fresh.now)) order.now)
-            ≡ map (name_at (self.now.known.names ++ fresh.now)) order.now) }
-    {
-        for i in 0..order.len() {
-            match self
-                .name_among(fresh, number)
-                .cmp(self.name_among(fresh, order[i]))
-            {
-                Ordering::Less => return Some(i),
-                Ordering::Equal => return None,
-                Ordering::Greater => {}
-            }
-        }
-        Some(order.len())
+        search(&self.names, &self.order, name.as_str()).is_ok() || has(others, name.as_str())
     }
 }
 
