@@ -121,7 +121,7 @@ impl<P: PinHolder, H: LeafHolder> Plan<P, H> {
             n shard.now.rows ready) }
     {
         let name = &self.names[n];
-        let fresh = self.fresh(slot, name, shard)?;
+        let fresh = self.fresh(slot, name, shard)?.into_names();
         let order = self.order_with(&fresh)?;
         let room = room_for(self.slots(), self.names.len(), fresh.len())?;
         let name = name.copy(*self.names.allocator())?;

@@ -10,6 +10,7 @@ ghost use Rattle.closure_plan.specs.Fresh.{Grows};
 ghost use Rattle.closure_plan.specs.Giving.{reached_by};
 
 use crate::holders::{LeafHolder, PinHolder};
+use crate::listing::Listing;
 use crate::plan::Plan;
 use crate::plan::order::search;
 use conda_name::{Name, dependency_name};
@@ -24,36 +25,31 @@ impl<P: PinHolder, H: LeafHolder> Plan<P, H> {
         slot: usize,
         name: &Name,
         shard: &Shard,
-    ) -> Result<Vec<Name>, AllocError>
-        ensures { IfOk result (λ fresh. Grows self.now.known.names [] fresh.items
+    ) -> Result<Listing, AllocError>
+        ensures { IfOk result (λ fresh. Grows self.now.known.names [] fresh
             (reached_by self.now.known.request slot name.now shard.now.rows)) }
     {
         if self.sources.request.flat {
-            return Ok(Vec::new(*self.names.allocator()));
+            return Ok(Listing::new(*self.names.allocator()));
         }
         self.new_names(slot, name, shard)
     }
 
     // The names that aren't listed, of those that the given rows of a shard depend on.
-    fn new_names(&self, slot: usize, name: &Name, shard: &Shard) -> Result<Vec<Name>, AllocError>
-        ensures { IfOk result (λ fresh. Grows self.now.known.names [] fresh.items
+    fn new_names(&self, slot: usize, name: &Name, shard: &Shard) -> Result<Listing, AllocError>
+        ensures { IfOk result (λ fresh. Grows self.now.known.names [] fresh
             (flat_map deps_of (given_of self.now.known.request slot name.now shard.now.rows))) }
     {
         self.names_of_rows(slot, name, shard)
     }
 
     // The names that aren't listed, of those that the rows of a shard depend on that pass.
-    fn names_of_rows(
-        &self,
-        slot: usize,
-        name: &Name,
-        shard: &Shard,
-    ) -> Result<Vec<Name>, AllocError>
-        ensures { IfOk result (λ fresh. Grows self.now.known.names [] fresh.items
+    fn names_of_rows(&self, slot: usize, name: &Name, shard: &Shard) -> Result<Listing, AllocError>
+        ensures { IfOk result (λ fresh. Grows self.now.known.names [] fresh
             (flat_map deps_of (filter (gives self.now.known.request slot name.now
             shard.now.rows) shard.now.rows))) }
     {
-        let mut fresh = Vec::new(*self.names.allocator());
+        let mut fresh = Listing::new(*self.names.allocator());
         for i in 0..shard.len() {
             self.add_row(slot, name, shard, i, &mut fresh)?;
         }
@@ -67,10 +63,10 @@ impl<P: PinHolder, H: LeafHolder> Plan<P, H> {
         name: &Name,
         shard: &Shard,
         i: usize,
-        fresh: &mut Vec<Name>,
+        fresh: &mut Listing,
     ) -> Result<(), AllocError>
         requires { i < length shard.now.rows }
-        ensures { OnOk result (Grows self.now.known.names fresh.old.items fresh.new.items
+        ensures { OnOk result (Grows self.now.known.names fresh.old fresh.new
             (deps_if (gives self.now.known.request slot name.now shard.now.rows) (slice_get
             shard.now.rows i))) }
     {
@@ -86,8 +82,8 @@ impl<P: PinHolder, H: LeafHolder> Plan<P, H> {
     }
 
     // Adds the names that a record depends on.
-    fn add_deps(&self, view: RecordView<'_>, fresh: &mut Vec<Name>) -> Result<(), AllocError>
-        ensures { OnOk result (Grows self.now.known.names fresh.old.items fresh.new.items
+    fn add_deps(&self, view: RecordView<'_>, fresh: &mut Listing) -> Result<(), AllocError>
+        ensures { OnOk result (Grows self.now.known.names fresh.old fresh.new
             (flat_map names_of_text (seen view.entry).depends)) }
     {
         for i in 0..view.depends_len() {
@@ -97,13 +93,8 @@ impl<P: PinHolder, H: LeafHolder> Plan<P, H> {
     }
 
     // Adds the name of the `depends` text of a place.
-    fn add_at(
-        &self,
-        view: RecordView<'_>,
-        i: usize,
-        fresh: &mut Vec<Name>,
-    ) -> Result<(), AllocError>
-        ensures { OnOk result (Grows self.now.known.names fresh.old.items fresh.new.items
+    fn add_at(&self, view: RecordView<'_>, i: usize, fresh: &mut Listing) -> Result<(), AllocError>
+        ensures { OnOk result (Grows self.now.known.names fresh.old fresh.new
             (names_if (slice_get (seen view.entry).depends i))) }
     {
         match view.depend(i) {
@@ -113,8 +104,8 @@ impl<P: PinHolder, H: LeafHolder> Plan<P, H> {
     }
 
     // Adds the name that a text is about.
-    fn add_text(&self, text: &str, fresh: &mut Vec<Name>) -> Result<(), AllocError>
-        ensures { OnOk result (Grows self.now.known.names fresh.old.items fresh.new.items
+    fn add_text(&self, text: &str, fresh: &mut Listing) -> Result<(), AllocError>
+        ensures { OnOk result (Grows self.now.known.names fresh.old fresh.new
             (names_of_text text.now)) }
     {
         match dependency_name(text) {
@@ -124,9 +115,9 @@ impl<P: PinHolder, H: LeafHolder> Plan<P, H> {
     }
 
     // Adds the name of a text, where it isn't listed.
-    fn add_name(&self, dep: &str, fresh: &mut Vec<Name>) -> Result<(), AllocError>
+    fn add_name(&self, dep: &str, fresh: &mut Listing) -> Result<(), AllocError>
         requires { name_of dep.now ≡ Ok (lower_case dep.now) }
-        ensures { OnOk result (Grows self.now.known.names fresh.old.items fresh.new.items
+        ensures { OnOk result (Grows self.now.known.names fresh.old fresh.new
             (lower_case dep.now ∷ [])) }
     {
         let name = read_name(*self.names.allocator(), dep)?;
@@ -134,8 +125,8 @@ impl<P: PinHolder, H: LeafHolder> Plan<P, H> {
     }
 
     // Adds a name, where it isn't listed.
-    fn add_new(&self, name: Name, fresh: &mut Vec<Name>) -> Result<(), AllocError>
-        ensures { OnOk result (Grows self.now.known.names fresh.old.items fresh.new.items (name
+    fn add_new(&self, name: Name, fresh: &mut Listing) -> Result<(), AllocError>
+        ensures { OnOk result (Grows self.now.known.names fresh.old fresh.new (name
             ∷ [])) }
     {
         if self.is_listed(&name, fresh) {
@@ -146,11 +137,11 @@ impl<P: PinHolder, H: LeafHolder> Plan<P, H> {
     }
 
     // Whether a name is listed or among others.
-    fn is_listed(&self, name: &Name, others: &[Name]) -> bool
+    fn is_listed(&self, name: &Name, others: &Listing) -> bool
         ensures { result ≡ (has_name self.now.known.names name.now || has_name others.now
             name.now) }
     {
-        search(&self.names, &self.order, name.as_str()).is_ok() || has(others, name.as_str())
+        search(&self.names, &self.order, name.as_str()).is_ok() || others.has(name.as_str())
     }
 }
 
@@ -159,18 +150,6 @@ pub(crate) fn is_same(one: &str, other: &str) -> bool
     ensures { result ≡ is_name one.now other.now }
 {
     one == other
-}
-
-// Whether a name stands in a list.
-pub(crate) fn has(names: &[Name], name: &str) -> bool
-    ensures { result ≡ has_name names.now name.now }
-{
-    for one in names {
-        if is_same(name, one.as_str()) {
-            return true;
-        }
-    }
-    false
 }
 
 // The name of a text that is one.

@@ -1,6 +1,6 @@
 //! Numbers of names, ascending by name.
 
-ghost use Rattle.std.specs.Prelude.{◌≡◌, ◌<◌, ◌≤◌, ◌++◌, ◌∷◌, [], List, ℕ, map, length, is_ok, IfOk, OnOk, IfSome, IfNone};
+ghost use Rattle.std.specs.Prelude.{◌≡◌, ◌<◌, ◌≤◌, ◌++◌, ◌∷◌, [], List, ℕ, map, length, is_ok, IfOk, OnOk, OnErr, IfSome, IfNone};
 ghost use Rattle.std.specs.List.{insert};
 ghost use Rattle.closure_plan.specs.Names.{has_name, with_name};
 ghost use Rattle.closure_plan.specs.Fresh.{IsOrder};
@@ -42,11 +42,17 @@ fn numbers_copy(
 }
 
 // Puts the number of one of the names behind the listed ones into its place.
-fn put(names: &[Name], fresh: &[Name], i: usize, order: &mut Vec<usize>) -> Result<(), AllocError>
+pub(crate) fn put(
+    names: &[Name],
+    fresh: &[Name],
+    i: usize,
+    order: &mut Vec<usize>,
+) -> Result<(), AllocError>
     requires { i < length fresh.now }
-    ensures { OnOk result ((listed : List (List ℕ)) → IsOrder (names.now ++ fresh.now) listed
+    ensures ok { OnOk result ((listed : List (List ℕ)) → IsOrder (names.now ++ fresh.now) listed
         order.old.items
         → IsOrder (names.now ++ fresh.now) (listed ++ name_at fresh.now i ∷ []) order.new.items) }
+    ensures err { OnErr result (order.new.items ≡ order.old.items) }
 {
     let number = names.len().checked_add(i).ok_or(AllocError)?;
     match place(names, fresh, number, order) {

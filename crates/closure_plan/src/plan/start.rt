@@ -7,9 +7,9 @@ ghost use Rattle.closure_plan.specs.Fresh.{Grows};
 ghost use Rattle.closure_plan.specs.Start.{IsUntouched, places_in, unpinned};
 
 use crate::holders::{LeafHolder, PinHolder};
+use crate::listing::Listing;
 use crate::plan::Plan;
 use crate::plan::giving::room_for;
-use crate::plan::names::has;
 use crate::plan::order::numbers_with;
 use crate::sources::{Place, Sources};
 use closure_request::Request;
@@ -71,7 +71,15 @@ fn add_places(places: &mut Vec<Place>, channel: usize, subdirs: usize) -> Result
 fn roots(alloc: Global, specs: &[Spec]) -> Result<Vec<Name>, AllocError>
     ensures { IfOk result (λ names. Grows [] [] names.items (root_names_of specs.now)) }
 {
-    let mut names = Vec::new(alloc);
+    let names = root_listing(alloc, specs)?;
+    Ok(names.into_names())
+}
+
+// The same, to be looked up.
+fn root_listing(alloc: Global, specs: &[Spec]) -> Result<Listing, AllocError>
+    ensures { IfOk result (λ names. Grows [] [] names (root_names_of specs.now)) }
+{
+    let mut names = Listing::new(alloc);
     for spec in specs {
         add_root(alloc, spec.name(), &mut names)?;
     }
@@ -79,10 +87,10 @@ fn roots(alloc: Global, specs: &[Spec]) -> Result<Vec<Name>, AllocError>
 }
 
 // Adds a name, where it isn't there.
-fn add_root(alloc: Global, name: &Name, names: &mut Vec<Name>) -> Result<(), AllocError>
-    ensures { OnOk result (Grows [] names.old.items names.new.items (name.now ∷ [])) }
+fn add_root(alloc: Global, name: &Name, names: &mut Listing) -> Result<(), AllocError>
+    ensures { OnOk result (Grows [] names.old names.new (name.now ∷ [])) }
 {
-    if has(names, name.as_str()) {
+    if names.has(name.as_str()) {
         return Ok(());
     }
     names.push(name.copy(alloc)?)?;

@@ -7,8 +7,8 @@ use Rattle.closure_plan.specs.Fresh.{IsOrder}
 use Rattle.closure_plan.proofs.OrderLemmas.{order_put, order_known, behind_name}
 use Rattle.closure_plan.proofs.plan.order.put.Goals as goal
 
-pub returns-in_ok-insert-in-Some : goal.returns-in_ok-insert-in-Some
-returns-in_ok-insert-in-Some c listed o =
+pub returns-in_ok-insert-in-Some-clause-ok : goal.returns-in_ok-insert-in-Some-clause-ok
+returns-in_ok-insert-in-Some-clause-ok c listed o =
     let names : List (List ℕ) = c.args.names.now in
     let fresh : List (List ℕ) = c.args.fresh.now in
     let order : List ℕ = c.args.order.now.items in
@@ -20,8 +20,8 @@ returns-in_ok-insert-in-Some c listed o =
     = subst (λ ks. with_name (name_at (names ++ fresh) k) (map (name_at (names ++ fresh)) ks) ≡ insert (map (name_at (names ++ fresh)) ks) c.in-Some.at (name_at (names ++ fresh) k)) c.deref.ensures.value (c.in-Some.ensures.some listed (subst (IsOrder (names ++ fresh) listed) (sym c.deref.ensures.value) o)) in
     subst (IsOrder (names ++ fresh) (listed ++ name_at fresh c.args.i ∷ [])) (sym c.in_ok-insert-in-Some.ensures.items) (order_put (names ++ fresh) listed order o k (name_at fresh c.args.i) is c.in-Some.at below placed)
 
-pub returns-in-None : goal.returns-in-None
-returns-in-None c listed o =
+pub returns-in-None-clause-ok : goal.returns-in-None-clause-ok
+returns-in-None-clause-ok c listed o =
     let names : List (List ℕ) = c.args.names.now in
     let fresh : List (List ℕ) = c.args.fresh.now in
     let order : List ℕ = c.args.order.now.items in
