@@ -150,3 +150,14 @@ all_given r pins leaves (w ∷ ws) e = elim (is_given pins leaves w) as (λ b. c
 
 pub end_done : (r : Asking) (pins : Pins) (leaves : List LeafRows) → next_wish r pins leaves [] ≡ None → list_all (is_given pins leaves) (needs r pins leaves) ≡ true
 end_done r pins leaves e = all_given r pins leaves (needs r pins leaves) e
+
+-- what is found passes
+found_passes : {W : Type 0} (p : W → Bool) (ws : List W) (x : W) → find p ws ≡ Some x → p x ≡ true
+found_passes p [] x e = absurd (true≢false (sym (ap is_some e)))
+found_passes p (w ∷ ws) x e = elim (p w) as (λ b. p w ≡ b → cond b (Some w) (find p ws) ≡ Some x → p x ≡ true) [
+  | true ↦ λ passes e. let same : w ≡ x = cc in ap p (sym same) ∙ passes
+  | false ↦ λ _ e. found_passes p ws x e
+] refl e
+
+pub next_askable : (r : Asking) (pins : Pins) (leaves : List LeafRows) (marked : List Wish) (need : Wish) → next_wish r pins leaves marked ≡ Some need → is_askable r pins leaves marked need ≡ true
+next_askable r pins leaves marked need e = found_passes (is_askable r pins leaves marked) (needs r pins leaves) need e

@@ -12,6 +12,7 @@ pub mod KeepLemmas
 pub mod GiveLemmas
 pub mod FreshLemmas
 pub mod OrderLemmas
+pub mod OwingLemmas
 pub mod RowLemmas
 pub mod TwinLemmas
 pub mod LawLemmas

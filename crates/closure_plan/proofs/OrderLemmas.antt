@@ -1,35 +1,41 @@
 -- Numbers by name.
-use Rattle.std.proofs.Common.{◌≡◌, ℕ, zero, suc, ◌+◌, ◌<◌, arith, List, [], ◌∷◌, ◌++◌, length, map, take, drop, refl, sym, ap, ◌∙◌, Result, Ok, Err}
+use Rattle.std.proofs.Common.{◌≡◌, ◌⊎◌, inl, inr, ℕ, zero, suc, ◌+◌, ◌<◌, ◌≤◌, arith, Bool, true, false, ◌||◌, ◌&&◌, T, List, [], ◌∷◌, ◌++◌, length, map, take, drop, append_assoc, refl, sym, ap, subst, ◌∙◌, Result, Ok, Err, ltb, ltb-true, ltb-false}
 use Rattle.std.specs.List.{All, AllByRecursion, insert, slice_index_or}
-use Rattle.std.specs.Prelude.{IfOk}
+use Rattle.std.specs.List.Sorted.{IsSortedBy, IsNonDecreasingBy, IsPartitionPoint, IsBinarySearchResult, IsSearchInRange}
+use Rattle.std.specs.Ordering.{is_lt, is_eq, ordering_index, ordering_reverse}
+use Rattle.std.specs.Prelude.{IfOk, is_ok}
+use Rattle.std.specs.FinMap.Entries as entries
 use Rattle.std.specs.declared.cmp.Ordering.{Ordering}
-use Rattle.std.specs.declared.cmp.Ordering.TheVariants.{Less, Equal}
-use Rattle.std.proofs.lemmas.List.{drop_more}
-use Rattle.std.proofs.lemmas.List.{length-append, map-append, get_or_append_left, get_or-append-add}
-use Rattle.std.proofs.lemmas.List.Elements.{All-weaker, All-append, All-take, All-drop, All-cons, recursion_from_All}
-use Rattle.closure_plan.specs.Names.{Name, by_bytes, with_name, placed, ascending}
+use Rattle.std.specs.declared.cmp.Ordering.TheVariants.{Less, Equal, Greater}
+use Rattle.std.proofs.Math.ListN.{get_or-map}
+use Rattle.std.proofs.lemmas.Cmp.{nat_list_cmp_total}
+use Rattle.std.proofs.lemmas.List.{take_more, take_all, length-map, length-append, map-append, get_or_append_left, get_or-append-add}
+use Rattle.std.proofs.lemmas.List.Elements.{All-nil, All-weaker, All-append, All-take, All-drop, All-cons, recursion_from_All}
+use Rattle.std.proofs.lemmas.List.Folds.{list_any_at}
+use Rattle.std.proofs.lemmas.List.Sorted.{searchable_from_sorted}
+use Rattle.closure_plan.specs.Names.{Name, by_bytes, is_name, has_name, with_name, ascending}
 use Rattle.closure_plan.specs.Plan.{name_at}
 use Rattle.closure_plan.specs.Fresh.{IsOrder}
-use Rattle.closure_plan.proofs.NameLemmas.{ascending_push, place_step}
+use Rattle.closure_plan.proofs.NameLemmas.{Rises, pairs, one_name, same_names, has-ascending, has-with_name, rises-ascending, rises-with_name, ascending_push, place_step}
 
 module _ (names fresh : List Name) where
   kept_names : (order : List ℕ) → AllByRecursion (λ k. k < length names) order → map (name_at (names ++ fresh)) order ≡ map (name_at names) order
   kept_names [] a = refl
   kept_names (k ∷ ks) a = ap (λ n. n ∷ map (name_at (names ++ fresh)) ks) (get_or_append_left names fresh [] k a.0) ∙ ap (λ ns. name_at names k ∷ ns) (kept_names ks a.1)
 
-  -- an order of names is one where more names have numbers
-  pub order_kept : (order : List ℕ) → map (name_at names) order ≡ ascending names → All (λ k. k < length names) order → IsOrder (names ++ fresh) names order
-  order_kept order is within = record {
+  -- numbers by name are such where more names have numbers
+  pub order_kept : (listed : List Name) (order : List ℕ) → map (name_at names) order ≡ ascending listed → All (λ k. k < length names) order → IsOrder (names ++ fresh) listed order
+  order_kept listed order is within = record {
     is = kept_names order (recursion_from_All (λ k. k < length names) order within) ∙ is;
     within = All-weaker (λ k. k < length names) (λ k. k < length (names ++ fresh)) (λ k l. let e = length-append names fresh in omega arith) order within;
   }
 
-map_take : (f : ℕ → Name) (xs : List ℕ) (i : ℕ) → map f (take i xs) ≡ take i (map f xs)
+pub map_take : (f : ℕ → Name) (xs : List ℕ) (i : ℕ) → map f (take i xs) ≡ take i (map f xs)
 map_take f xs zero = refl
 map_take f [] (suc i) = refl
 map_take f (x ∷ xs) (suc i) = ap (λ ys. f x ∷ ys) (map_take f xs i)
 
-map_drop : (f : ℕ → Name) (xs : List ℕ) (i : ℕ) → map f (drop i xs) ≡ drop i (map f xs)
+pub map_drop : (f : ℕ → Name) (xs : List ℕ) (i : ℕ) → map f (drop i xs) ≡ drop i (map f xs)
 map_drop f xs zero = refl
 map_drop f [] (suc i) = refl
 map_drop f (x ∷ xs) (suc i) = map_drop f xs i
@@ -46,22 +52,125 @@ pub ok_on : {A E : Type 0} (r : Result A E) (P Q : A → Type 0) → ((x : A) �
 ok_on (Ok x) P Q f p = f x p
 ok_on (Err e) P Q f p = p
 
--- the walk to a name's place
-module _ (f : ℕ → Name) (n : Name) (order : List ℕ) (i : ℕ) (l : i < length order) (e : with_name n (map f order) ≡ map f (take i order) ++ with_name n (map f (drop i order))) where
-  abbrev here : ℕ
-  here = slice_index_or order i 0
+pub second_of : (a b : Bool) → T (a && b) → T b
+second_of true b t = t
+second_of false b t = absurd t
 
-  abbrev rest : List Name
-  rest = map f (drop (i + 1) order)
+pub first_of : (a b : Bool) → T (a && b) → T a
+first_of true b t = tt
+first_of false b t = t
 
-  there : (o : Ordering) → by_bytes n (f here) ≡ o → with_name n (map f order) ≡ map f (take i order) ++ placed o (n ∷ f here ∷ rest) (f here ∷ rest) (f here ∷ with_name n rest)
-  there o is = e ∙ ap (λ ks. map f (take i order) ++ with_name n (map f ks)) (drop_more order i 0 l) ∙ ap (λ ns. map f (take i order) ++ ns) (place_step n (f here) rest o is)
+less : (o : Ordering) → T (is_lt o) → o ≡ Less
+less Less t = refl
+less Equal t = absurd t
+less Greater t = absurd t
 
-  pub place_less : by_bytes n (f here) ≡ Less → with_name n (map f order) ≡ insert (map f order) i n
-  place_less is = there Less is ∙ ap (λ ks. map f (take i order) ++ n ∷ map f ks) (sym (drop_more order i 0 l)) ∙ ap (λ xs. xs ++ n ∷ map f (drop i order)) (map_take f order i) ∙ ap (λ xs. take i (map f order) ++ n ∷ xs) (map_drop f order i)
+-- ---- a binary search
 
-  pub place_equal : by_bytes n (f here) ≡ Equal → with_name n (map f order) ≡ map f order
-  place_equal is = there Equal is ∙ ap (λ ks. map f (take i order) ++ map f ks) (sym (drop_more order i 0 l)) ∙ sym (map-append f (take i order) (drop i order)) ∙ ap (map f) (split order i)
+below_at : (x : Name) (xs : List Name) → T (entries.below_all by_bytes x (pairs xs)) → (k : ℕ) (d : Name) → k < length xs → by_bytes x (slice_index_or xs k d) ≡ Less
+below_at x [] h k d l = absurd (omega arith)
+below_at x (y ∷ ys) h zero d l = less (by_bytes x y) (first_of (is_lt (by_bytes x y)) (entries.below_all by_bytes x (pairs ys)) h)
+below_at x (y ∷ ys) h (suc k) d l = below_at x ys (second_of (is_lt (by_bytes x y)) (entries.below_all by_bytes x (pairs ys)) h) k d (omega arith)
+
+rises_at : (xs : List Name) → Rises xs → (k : ℕ) (d : Name) → suc k < length xs → by_bytes (slice_index_or xs k d) (slice_index_or xs (suc k) d) ≡ Less
+rises_at [] h k d l = absurd (omega arith)
+rises_at (x ∷ xs) h zero d l = below_at x xs (first_of (entries.below_all by_bytes x (pairs xs)) (entries.is_sorted by_bytes (pairs xs)) h) 0 d (omega arith)
+rises_at (x ∷ xs) h (suc k) d l = rises_at xs (second_of (entries.below_all by_bytes x (pairs xs)) (entries.is_sorted by_bytes (pairs xs)) h) k d (omega arith)
+
+back_of : (n m : Name) → by_bytes n m ≡ ordering_reverse (by_bytes m n)
+back_of n m = nat_list_cmp_total.antisymm n m
+
+-- a name between those of a list
+with_between : (n : Name) (xs : List Name) (at : ℕ) (d : Name) → at ≤ length xs
+    → ((k : ℕ) → k < at → by_bytes (slice_index_or xs k d) n ≡ Less)
+    → ((k : ℕ) → at ≤ k → k < length xs → by_bytes (slice_index_or xs k d) n ≡ Greater)
+    → with_name n xs ≡ insert xs at n
+with_between n [] zero d l low high = refl
+with_between n [] (suc at) d l low high = absurd (omega arith)
+with_between n (x ∷ xs) zero d l low high = place_step n x xs Less (back_of n x ∙ ap ordering_reverse (high 0 (omega arith) (omega arith)))
+with_between n (x ∷ xs) (suc at) d l low high =
+    place_step n x xs Greater (back_of n x ∙ ap ordering_reverse (low 0 (omega arith)))
+    ∙ ap (λ ns. x ∷ ns) (with_between n xs at d (omega arith) (λ k lt. low (suc k) (omega arith)) (λ k le lt. high (suc k) (omega arith) (omega arith)))
+
+-- a name that stands in a list
+with_known : (n : Name) (xs : List Name) → Rises xs → has_name xs n ≡ true → with_name n xs ≡ xs
+with_known n xs h i = same_names (with_name n xs) xs (rises-with_name n xs h) h (λ q. has-with_name q n xs ∙ known q)
+  where
+    known : (q : Name) → (is_name q n || has_name xs q) ≡ has_name xs q
+    known q = elim (is_name q n) as (λ b. is_name q n ≡ b → (b || has_name xs q) ≡ has_name xs q) [
+      | true ↦ λ same. sym (ap (has_name xs) (one_name q n same) ∙ i)
+      | false ↦ λ _. refl
+    ] refl
+
+-- how the name of a number compares to a name
+abbrev pub compared : (ℕ → Name) → Name → ℕ → Ordering
+compared f n k = by_bytes (f k) n
+
+module _ (f : ℕ → Name) (n : Name) (order : List ℕ) (listed : List Name) (is : map f order ≡ ascending listed) where
+  up : Rises (map f order)
+  up = subst Rises (sym is) (rises-ascending listed)
+
+  rising : IsNonDecreasingBy (λ k. ordering_index (compared f n k)) order
+  rising = searchable_from_sorted nat_list_cmp_total f order n sorted
+    where
+      sorted : IsSortedBy (λ a b. is_lt (by_bytes (f a) (f b))) order
+      sorted k d low high =
+          let len : length (map f order) ≡ length order = length-map order f in
+          let one : suc k ≡ k + 1 = omega arith in
+          let next : slice_index_or (map f order) (suc k) (f d) ≡ f (slice_index_or order (k + 1) d) = ap (λ j. slice_index_or (map f order) j (f d)) one ∙ get_or-map f order (k + 1) d in
+          let here : slice_index_or (map f order) k (f d) ≡ f (slice_index_or order k d) = get_or-map f order k d in
+          ap is_lt (back_of (f (slice_index_or order (k + 1) d)) (f (slice_index_or order k d))
+          ∙ ap ordering_reverse (ap (λ m. by_bytes m (f (slice_index_or order (k + 1) d))) (sym here) ∙ ap (by_bytes (slice_index_or (map f order) k (f d))) (sym next) ∙ rises_at (map f order) up k (f d) (omega arith)))
+
+  module _ (r : Result ℕ ℕ) (bound : IsSearchInRange r (length order)) (found : IsBinarySearchResult (compared f n) order r) where
+    -- a name that was found stands in the list
+    pub search_known : (at : ℕ) → r ≡ Ok at → has_name listed n ≡ true
+    search_known at e = sym (has-ascending n listed) ∙ ap (λ ns. has_name ns n) (sym is) ∙ in_map (subst (λ (q : Result ℕ ℕ). IsSearchInRange q (length order)) e bound) (subst (λ (q : Result ℕ ℕ). IsBinarySearchResult (compared f n) order q) e found)
+      where
+        in_map : at < length order → ((d : ℕ) → compared f n (slice_index_or order at d) ≡ Equal) → has_name (map f order) n ≡ true
+        in_map l same = let len : length (map f order) ≡ length order = length-map order f in
+            list_any_at (is_name n) (map f order) at (f 0) (omega arith)
+            (ap is_eq (ap (by_bytes n) (get_or-map f order at 0) ∙ back_of n (f (slice_index_or order at 0)) ∙ ap ordering_reverse (same 0)))
+
+    -- it is put where it stands
+    pub search_same : (at : ℕ) → r ≡ Ok at → with_name n (map f order) ≡ map f order
+    search_same at e = with_known n (map f order) up (ap (λ ns. has_name ns n) is ∙ has-ascending n listed ∙ search_known at e)
+
+    -- a name that wasn't found goes to the place where the search ended
+    pub search_place : (at : ℕ) → r ≡ Err at → with_name n (map f order) ≡ insert (map f order) at n
+    search_place at e = between (subst (λ (q : Result ℕ ℕ). IsSearchInRange q (length order)) e bound) (subst (λ (q : Result ℕ ℕ). IsBinarySearchResult (compared f n) order q) e found rising)
+      where
+        between : at ≤ length order → IsPartitionPoint (λ k. compared f n k ≡ Less) (λ k. compared f n k ≡ Greater) order at → with_name n (map f order) ≡ insert (map f order) at n
+        between l parts =
+            let len : length (map f order) ≡ length order = length-map order f in
+            with_between n (map f order) at (f 0) (omega arith)
+            (λ k lt. ap (λ m. by_bytes m n) (get_or-map f order k 0) ∙ parts.0 k 0 (omega arith) lt)
+            (λ k le lt. ap (λ m. by_bytes m n) (get_or-map f order k 0) ∙ parts.1 k 0 le (omega arith))
+
+    -- it doesn't stand in the list
+    pub search_new : (at : ℕ) → r ≡ Err at → has_name listed n ≡ false
+    search_new at e = sym (has-ascending n listed) ∙ ap (λ ns. has_name ns n) (sym is) ∙ none (subst (λ (q : Result ℕ ℕ). IsSearchInRange q (length order)) e bound) (subst (λ (q : Result ℕ ℕ). IsBinarySearchResult (compared f n) order q) e found rising)
+      where
+        apart : (o : Ordering) → (o ≡ Less) ⊎ (o ≡ Greater) → is_eq (ordering_reverse o) ≡ false
+        apart o (inl e) = ap (λ x. is_eq (ordering_reverse x)) e
+        apart o (inr e) = ap (λ x. is_eq (ordering_reverse x)) e
+
+        each : (ks : List ℕ) → ((j : ℕ) (d : ℕ) → j < length ks → is_eq (ordering_reverse (compared f n (slice_index_or ks j d))) ≡ false) → has_name (map f ks) n ≡ false
+        each [] h = refl
+        each (k ∷ ks) h = ap (λ b. b || has_name (map f ks) n) (ap is_eq (back_of n (f k)) ∙ h 0 0 (omega arith)) ∙ each ks (λ j d l. h (suc j) d (omega arith))
+
+        none : at ≤ length order → IsPartitionPoint (λ k. compared f n k ≡ Less) (λ k. compared f n k ≡ Greater) order at → has_name (map f order) n ≡ false
+        none l parts = each order (λ j d low. apart (compared f n (slice_index_or order j d)) (elim (ltb j at) as (λ b. ltb j at ≡ b → (compared f n (slice_index_or order j d) ≡ Less) ⊎ (compared f n (slice_index_or order j d) ≡ Greater)) [
+          | true ↦ λ t. inl (parts.0 j d (omega arith) (ltb-true _ _ t))
+          | false ↦ λ t. inr (parts.1 j d (ltb-false _ _ t) low)
+        ] refl))
+
+    -- whether it was found says whether it stands there
+    pub search_has : is_ok r ≡ has_name listed n
+    search_has = elim r as (λ (q : Result ℕ ℕ). r ≡ q → is_ok q ≡ has_name listed n) [
+      | Ok at ↦ λ e. sym (search_known at e)
+      | Err at ↦ λ e. sym (search_new at e)
+    ] refl
 
 module _ (all listed : List Name) (order : List ℕ) (o : IsOrder all listed order) (k : ℕ) (n : Name) (is : name_at all k ≡ n) where
   -- a number more, put into its place
@@ -81,3 +190,22 @@ module _ (all listed : List Name) (order : List ℕ) (o : IsOrder all listed ord
 -- the name of a number behind the listed ones
 pub behind_name : (names fresh : List Name) (i : ℕ) → name_at (names ++ fresh) (length names + i) ≡ name_at fresh i
 behind_name names fresh i = get_or-append-add names fresh i []
+
+-- ---- some names more, one after another
+
+append_none : (xs : List Name) → xs ++ [] ≡ xs
+append_none [] = refl
+append_none (x ∷ xs) = ap (λ ys. x ∷ ys) (append_none xs)
+
+pub numbers_start : (all listed fresh : List Name) (order : List ℕ) → IsOrder all listed order → IsOrder all (listed ++ take 0 fresh) order
+numbers_start all listed fresh order o = subst (λ ns. IsOrder all ns order) (sym (append_none listed)) o
+
+pub numbers_more : (all listed fresh : List Name) (i : ℕ) (order : List ℕ) → i < length fresh → IsOrder all ((listed ++ take i fresh) ++ name_at fresh i ∷ []) order → IsOrder all (listed ++ take (i + 1) fresh) order
+numbers_more all listed fresh i order l o = subst (λ ns. IsOrder all ns order) (append_assoc listed (take i fresh) (name_at fresh i ∷ []) ∙ ap (λ ns. listed ++ ns) (sym (take_more fresh i [] l))) o
+
+pub numbers_end : (all listed fresh : List Name) (i : ℕ) (order : List ℕ) → length fresh ≤ i → IsOrder all (listed ++ take i fresh) order → IsOrder all (listed ++ fresh) order
+numbers_end all listed fresh i order l o = subst (λ ns. IsOrder all (listed ++ ns) order) (take_all i fresh l) o
+
+-- no numbers are those of no names
+pub no_order : (all : List Name) → IsOrder all [] []
+no_order all = record { is = refl; within = All-nil (λ k. k < length all) }

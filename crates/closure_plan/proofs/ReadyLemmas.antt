@@ -1,5 +1,5 @@
 -- What was made before makes a shard's arrival good.
-use Rattle.std.proofs.Common.{◌≡◌, ℕ, ◌+◌, ◌*◌, ◌<◌, ◌≤◌, arith, true, ◌||◌, List, [], ◌∷◌, ◌++◌, length, set, find, refl, sym, ap, subst, ◌∙◌, Option, Some}
+use Rattle.std.proofs.Common.{◌≡◌, ℕ, ◌+◌, ◌*◌, ◌<◌, ◌≤◌, arith, true, ◌||◌, List, [], ◌∷◌, ◌++◌, length, map, set, find, refl, sym, ap, subst, ◌∙◌, Option, Some}
 use Rattle.std.specs.List.{IsDistinct}
 use Rattle.std.specs.Option.{option_and_then}
 use Rattle.std.proofs.lemmas.List.{length-append, length-map, map-append}
@@ -16,9 +16,12 @@ use Rattle.closure_plan.specs.Cells.{AreCells, cell_at}
 use Rattle.closure_plan.specs.Plan.{Planned, its_leaves, its_pins, leaf_of, leaves_of, name_at, digest_of_need, has_need, without}
 use Rattle.closure_plan.specs.Inside.{Holds}
 use Rattle.closure_plan.specs.Giving.{reached_by}
+use Rattle.closure_plan.specs.Fresh.{IsOrder}
+use Rattle.closure_plan.specs.Owing.{AreOwing}
 use Rattle.closure_plan.specs.Ready.{IsReady}
 use Rattle.closure_plan.proofs.CellLemmas.{cells_given, cells_same}
 use Rattle.closure_plan.proofs.NumberLemmas.{place_low}
+use Rattle.closure_plan.proofs.OwingLemmas.{owing_kept, owing_given}
 use Rattle.closure_plan.proofs.MarkLemmas.{slot_below}
 use Rattle.closure_plan.proofs.KeepLemmas.{each_pin, marked_need, marked_open}
 use Rattle.closure_plan.proofs.GiveLemmas.{holds_given, leaf_names, leaves_named, none_is}
@@ -100,3 +103,12 @@ module _ {P H : Type 0} (pinned : P → indexes.Contents) (held : H → shards.C
         (leaf_names pinned held seen.known.names seen.known.leaves (leaves_named pinned held seen by_name room h))
         slot k slot_low number_below refl is.name (none_is (find (is_at slot (name_at seen.known.names k)) old) (marked_open pinned held seen by_name room h (need.Shard slot k) marked))
         (place_ready (length grown) wide))))
+
+    -- the names of which a shard may be owed, with the new ones
+    pub owing_ready : (owing more : List ℕ) → AreOwing seen.known.request (its_pins pinned held seen.known) seen.known.names (its_leaves pinned held seen.known) owing
+        → ((listed : List Name) → IsOrder (seen.known.names ++ fresh) listed owing → IsOrder (seen.known.names ++ fresh) (listed ++ fresh) more)
+        → AreOwing seen.known.request (its_pins pinned held seen.known) (seen.known.names ++ fresh) (leaves_of held (seen.known.leaves ++ record { slot = slot; name = ready.name; holder = holder } ∷ [])) more
+    owing_ready owing more o longer =
+        subst (λ (ls : List LeafRows). AreOwing seen.known.request (its_pins pinned held seen.known) (seen.known.names ++ fresh) ls more) (sym (map-append (leaf_of held) seen.known.leaves (record { slot = slot; name = ready.name; holder = holder } ∷ [])))
+        (owing_given seen.known.request (its_pins pinned held seen.known) seen.known.names old owing o fresh (l ∷ []) more
+        (longer (map (name_at seen.known.names) owing) (owing_kept seen.known.request (its_pins pinned held seen.known) seen.known.names old owing o fresh)))

@@ -7,7 +7,7 @@ use Rattle.closure_request.specs.Slots.{slots}
 use Rattle.closure_plan.specs.Names.{Name, has_name}
 use Rattle.closure_plan.specs.Rounds.{rounds}
 use Rattle.closure_plan.specs.Given.{Pins, LeafRows, pin_at, rows_at, wanted, given}
-use Rattle.closure_plan.specs.Needs.{is_given, needs, next_wish}
+use Rattle.closure_plan.specs.Needs.{Wish, is_given, is_askable, needs, next_wish}
 use Rattle.closure_plan.specs.Closure.{Found, leads_to, reach, found, closure}
 
 -- ---- rounds
@@ -84,3 +84,8 @@ ClosureIsThatOfWorld = (r : Asking) (pins world_pins : Pins) (leaves world : Lis
 abbrev pub EndIsDone : Type 0
 EndIsDone = (r : Asking) (pins : Pins) (leaves : List LeafRows)
     → next_wish r pins leaves [] ≡ None → list_all (is_given pins leaves) (needs r pins leaves) ≡ true
+
+-- the need to ask for next is one that may be asked for: it is not given, and no marked need has its key
+abbrev pub NextIsAskable : Type 0
+NextIsAskable = (r : Asking) (pins : Pins) (leaves : List LeafRows) (marked : List Wish) (need : Wish)
+    → next_wish r pins leaves marked ≡ Some need → is_askable r pins leaves marked need ≡ true

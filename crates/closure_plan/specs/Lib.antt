@@ -14,6 +14,7 @@ pub mod Inside
 pub mod Fresh
 pub mod Rows
 pub mod Cells
+pub mod Owing
 pub mod Ready
 pub use Rattle.closure_request.specs.Request
 pub use Rattle.closure_request.specs.Slots

@@ -1,6 +1,6 @@
 //! Laws of the closure, each the contract of a function that does nothing.
 
-ghost use Rattle.closure_plan.specs.Laws.{ClosureIsGiven, ClosureIsThatOfWorld, EndIsDone, GivenIsInClosure, GivenStays, NothingIsAdded, OrderChangesNothing, ReachIsLeast, ReachStays, RoundsGrow, WantedStays};
+ghost use Rattle.closure_plan.specs.Laws.{ClosureIsGiven, ClosureIsThatOfWorld, EndIsDone, NextIsAskable, GivenIsInClosure, GivenStays, NothingIsAdded, OrderChangesNothing, ReachIsLeast, ReachStays, RoundsGrow, WantedStays};
 
 /// Rounds keep what was reached, and end: what is reached has the root names and all that it leads
 /// to, nothing is added after that, and no smaller list of names is so.
@@ -31,7 +31,9 @@ pub fn order_changes_nothing()
     ensures world { ClosureIsThatOfWorld }
 {}
 
-/// A plan without marks whose `next` is None is done.
+/// A plan without marks whose `next` is None is done, and what `next` gives is not given, and has a
+/// key that no marked need has.
 pub fn the_end_is_done()
     ensures done { EndIsDone }
+    ensures next { NextIsAskable }
 {}

@@ -10,6 +10,7 @@
 mod answer;
 mod holders;
 mod laws;
+mod listing;
 mod need;
 mod plan;
 mod sources;

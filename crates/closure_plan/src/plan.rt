@@ -1,10 +1,12 @@
 //! A plan: what a request needs, and what was given of it.
 
 mod asking;
+mod closing;
 mod finishing;
 pub(crate) mod giving;
 pub(crate) mod marks;
 pub(crate) mod names;
+pub(crate) mod order;
 mod start;
 
 ghost use Rattle.std.specs.Prelude.{◌≡◌, length, slice_get, IfOk, IfSome, Some, true};
@@ -43,13 +45,15 @@ impl<H: LeafHolder> Model for GivenLeaf<H> {
 
 /// A plan of a request. Contracts see it as `Planned`: what is known, and what is marked.
 ///
-/// Its names are kept by number, with an order by bytes beside them, and each name has a cell for each
-/// slot with the place of its shard, so that no step looks through the shards.
+/// Its names are kept by number, with an order by bytes beside them. Each name has a cell for each slot
+/// with the place of its shard, so that no step looks through the shards, and the names of which a shard
+/// may still be owed are kept apart, by name, so that no step looks through the names that are done.
 #[derive(Drop)]
 pub struct Plan<P: PinHolder, H: LeafHolder> {
     sources: Sources<P>,
     names: Vec<Name>,
     order: Vec<usize>,
+    owing: Vec<usize>,
     leaves: Vec<GivenLeaf<H>>,
     marks: Vec<Need>,
     cells: Vec<Option<usize>>,
@@ -58,8 +62,9 @@ pub struct Plan<P: PinHolder, H: LeafHolder> {
 impl<P: PinHolder, H: LeafHolder> Model for Plan<P, H> {
     ghost use Rattle.std.specs.Prelude.{length, vec_capacity};
     ghost use Rattle.closure_request.specs.Slots.{slots};
-    ghost use Rattle.closure_plan.specs.Plan.{Planned, leaves_of};
+    ghost use Rattle.closure_plan.specs.Plan.{Planned, leaves_of, pins_of};
     ghost use Rattle.closure_plan.specs.Cells.{AreCells};
+    ghost use Rattle.closure_plan.specs.Owing.{AreOwing};
     ghost use Rattle.closure_plan.specs.Inside.{Holds};
 
     ghost Value = { Planned P H };
@@ -84,7 +89,9 @@ impl<P: PinHolder, H: LeafHolder> Model for Plan<P, H> {
       marked = p.marks.items;
     }) p.order.items (vec_capacity p.marks)
         × AreCells (length (slots p.sources.request)) p.names.items
-        (leaves_of H.contents p.leaves.items) p.cells.items };
+        (leaves_of H.contents p.leaves.items) p.cells.items
+        × AreOwing p.sources.request (pins_of P.contents p.sources.pins) p.names.items
+        (leaves_of H.contents p.leaves.items) p.owing.items };
 }
 
 impl<P: PinHolder, H: LeafHolder> Plan<P, H> {

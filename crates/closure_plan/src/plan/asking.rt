@@ -60,8 +60,8 @@ impl<P: PinHolder, H: LeafHolder> Plan<P, H> {
             (its_leaves P.contents H.contents self.now.known))) }
         ensures fit { IfSome result (CanMark P.contents H.contents self.now) }
     {
-        for i in 0..self.order.len() {
-            let n = self.order[i];
+        for i in 0..self.owing.len() {
+            let n = self.owing[i];
             if let Some(slot) = self.next_slot(n) {
                 return Some(Need::Shard(slot, n));
             }
@@ -146,8 +146,8 @@ impl<P: PinHolder, H: LeafHolder> Plan<P, H> {
             (reach self.now.known.request (its_pins P.contents H.contents self.now.known)
             (its_leaves P.contents H.contents self.now.known))) }
     {
-        for i in 0..self.order.len() {
-            let n = self.order[i];
+        for i in 0..self.owing.len() {
+            let n = self.owing[i];
             if !self.has_each(n) {
                 return false;
             }
@@ -156,7 +156,7 @@ impl<P: PinHolder, H: LeafHolder> Plan<P, H> {
     }
 
     // Whether the shards that are needed of a name are given.
-    fn has_each(&self, n: usize) -> bool
+    pub(crate) fn has_each(&self, n: usize) -> bool
         requires { n < length self.now.known.names }
         ensures { result ≡ list_all (is_given (its_pins P.contents H.contents self.now.known)
             (its_leaves P.contents H.contents self.now.known))

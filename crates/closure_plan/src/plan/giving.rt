@@ -1,8 +1,9 @@
 //! Taking in indexes and shards.
 
-ghost use Rattle.std.specs.Prelude.{◌≡◌, ◌+◌, ◌*◌, ◌<◌, ◌≤◌, ℕ, Some, true, length, IfOk, OnOk, OnErr};
+ghost use Rattle.std.specs.Prelude.{◌≡◌, ◌+◌, ◌*◌, ◌<◌, ◌≤◌, ◌++◌, ℕ, Some, true, length, IfOk, OnOk, OnErr};
 ghost use Rattle.digest_gate.specs.Digest.{digest_of};
 ghost use Rattle.closure_plan.specs.Cells.{cell_at};
+ghost use Rattle.closure_plan.specs.Fresh.{IsOrder};
 ghost use Rattle.closure_plan.specs.Ready.{IsReady};
 ghost use Rattle.closure_plan.specs.Giving.{Gave, GaveNeed, with_pin};
 ghost use Rattle.closure_plan.specs.Plan.{digest_of_need, has_need, its_pins, without};
@@ -10,6 +11,7 @@ ghost use Rattle.closure_plan.specs.Plan.{digest_of_need, has_need, its_pins, wi
 use crate::holders::{LeafHolder, PinHolder};
 use crate::need::Need;
 use crate::plan::marks::is_same_need;
+use crate::plan::order::numbers_with;
 use crate::plan::{GivenLeaf, Plan};
 use conda_name::Name;
 use shard_file::Shard;
@@ -34,9 +36,25 @@ impl<P: PinHolder, H: LeafHolder> Plan<P, H> {
         }) }
         ensures err { OnErr result (self.new ≡ self.old) }
     {
+        self.pin_slot(slot, holder)?;
+        self.close_all();
+        Ok(())
+    }
+
+    // The same, where any name may be owed a shard.
+    fn pin_slot(&mut self, slot: usize, holder: P) -> Result<(), AllocError>
+        requires { has_need self.old.marked (Need.Index slot) ≡ true }
+        ensures ok { IfOk result (λ _. self.new ≡ record {
+          known = with_pin slot holder self.old.known;
+          marked = without (Need.Index slot) self.old.marked;
+        }) }
+        ensures err { OnErr result (self.new ≡ self.old) }
+    {
+        let owing = Vec::from_slice(*self.names.allocator(), &self.order)?;
         self.sources.pin(slot, holder);
         self.marks
             .retain(|mark| !is_same_need(Need::Index(slot), *mark));
+        self.owing = owing;
         Ok(())
     }
 
@@ -52,7 +70,12 @@ impl<P: PinHolder, H: LeafHolder> Plan<P, H> {
     {
         match need {
             Need::Index(_) => Ok(()),
-            Need::Shard(slot, n) => self.give_shard(slot, n, holder),
+            Need::Shard(slot, n) => {
+                let listed = self.names.len();
+                self.give_shard(slot, n, holder)?;
+                self.close_given(n, listed);
+                Ok(())
+            }
         }
     }
 
@@ -70,6 +93,8 @@ impl<P: PinHolder, H: LeafHolder> Plan<P, H> {
     {
         let place = self.place_of(slot, n);
         let ready = self.ready(slot, n, holder.leaf().shard())?;
+        let alloc = *self.names.allocator();
+        let owing = numbers_with(alloc, &self.names, &ready.fresh, &self.owing)?;
         let Ready {
             name,
             mut fresh,
@@ -81,6 +106,7 @@ impl<P: PinHolder, H: LeafHolder> Plan<P, H> {
         grow(&mut self.cells, room)?;
         self.names.append(&mut fresh)?;
         self.order = order;
+        self.owing = owing;
         self.cells[place] = Some(self.leaves.len());
         self.leaves.push_reserved(GivenLeaf { slot, name, holder });
         self.marks
@@ -95,7 +121,7 @@ impl<P: PinHolder, H: LeafHolder> Plan<P, H> {
             n shard.now.rows ready) }
     {
         let name = &self.names[n];
-        let fresh = self.fresh(slot, name, shard)?;
+        let fresh = self.fresh(slot, name, shard)?.into_names();
         let order = self.order_with(&fresh)?;
         let room = room_for(self.slots(), self.names.len(), fresh.len())?;
         let name = name.copy(*self.names.allocator())?;
@@ -105,6 +131,14 @@ impl<P: PinHolder, H: LeafHolder> Plan<P, H> {
             order,
             room,
         })
+    }
+
+    // The numbers of the names with some more behind them, by name.
+    fn order_with(&self, fresh: &[Name]) -> Result<Vec<usize>, AllocError>
+        ensures { IfOk result (λ order. IsOrder (self.now.known.names ++ fresh.now)
+            (self.now.known.names ++ fresh.now) order.items) }
+    {
+        numbers_with(*self.names.allocator(), &self.names, fresh, &self.order)
     }
 }
 

@@ -1,22 +1,22 @@
-//! The names that a shard reaches, and the order of names.
+//! The names that a shard reaches.
 
-ghost use Rattle.std.specs.Prelude.{◌≡◌, ◌<◌, ◌≤◌, ◌||◌, ◌++◌, ◌∷◌, [], List, ℕ, Ok, map, length, slice_get, IfOk, OnOk, IfSome, IfNone};
-ghost use Rattle.std.specs.List.{filter, flat_map, insert};
+ghost use Rattle.std.specs.Prelude.{◌≡◌, ◌<◌, ◌||◌, ◌∷◌, [], Ok, length, slice_get, IfOk, OnOk};
+ghost use Rattle.std.specs.List.{filter, flat_map};
 ghost use Rattle.conda_name.specs.Name.{lower_case, name_of};
 ghost use Rattle.conda_record.specs.View.{seen};
-ghost use Rattle.closure_plan.specs.Names.{has_name, is_name, with_name};
+ghost use Rattle.closure_plan.specs.Names.{has_name, is_name};
 ghost use Rattle.closure_plan.specs.Given.{deps_if, deps_of, given_of, gives, names_if, names_of_text};
-ghost use Rattle.closure_plan.specs.Fresh.{Grows, IsOrder};
+ghost use Rattle.closure_plan.specs.Fresh.{Grows};
 ghost use Rattle.closure_plan.specs.Giving.{reached_by};
-ghost use Rattle.closure_plan.specs.Plan.{name_at};
 
 use crate::holders::{LeafHolder, PinHolder};
+use crate::listing::Listing;
 use crate::plan::Plan;
+use crate::plan::order::search;
 use conda_name::{Name, dependency_name};
 use conda_record::RecordView;
 use shard_file::Shard;
 use std::alloc::{AllocError, Global};
-use std::cmp::Ordering;
 
 impl<P: PinHolder, H: LeafHolder> Plan<P, H> {
     // The names that a shard reaches and that aren't listed.
@@ -25,36 +25,31 @@ impl<P: PinHolder, H: LeafHolder> Plan<P, H> {
         slot: usize,
         name: &Name,
         shard: &Shard,
-    ) -> Result<Vec<Name>, AllocError>
-        ensures { IfOk result (λ fresh. Grows self.now.known.names [] fresh.items
+    ) -> Result<Listing, AllocError>
+        ensures { IfOk result (λ fresh. Grows self.now.known.names [] fresh
             (reached_by self.now.known.request slot name.now shard.now.rows)) }
     {
         if self.sources.request.flat {
-            return Ok(Vec::new(*self.names.allocator()));
+            return Ok(Listing::new(*self.names.allocator()));
         }
         self.new_names(slot, name, shard)
     }
 
     // The names that aren't listed, of those that the given rows of a shard depend on.
-    fn new_names(&self, slot: usize, name: &Name, shard: &Shard) -> Result<Vec<Name>, AllocError>
-        ensures { IfOk result (λ fresh. Grows self.now.known.names [] fresh.items
+    fn new_names(&self, slot: usize, name: &Name, shard: &Shard) -> Result<Listing, AllocError>
+        ensures { IfOk result (λ fresh. Grows self.now.known.names [] fresh
             (flat_map deps_of (given_of self.now.known.request slot name.now shard.now.rows))) }
     {
         self.names_of_rows(slot, name, shard)
     }
 
     // The names that aren't listed, of those that the rows of a shard depend on that pass.
-    fn names_of_rows(
-        &self,
-        slot: usize,
-        name: &Name,
-        shard: &Shard,
-    ) -> Result<Vec<Name>, AllocError>
-        ensures { IfOk result (λ fresh. Grows self.now.known.names [] fresh.items
+    fn names_of_rows(&self, slot: usize, name: &Name, shard: &Shard) -> Result<Listing, AllocError>
+        ensures { IfOk result (λ fresh. Grows self.now.known.names [] fresh
             (flat_map deps_of (filter (gives self.now.known.request slot name.now
             shard.now.rows) shard.now.rows))) }
     {
-        let mut fresh = Vec::new(*self.names.allocator());
+        let mut fresh = Listing::new(*self.names.allocator());
         for i in 0..shard.len() {
             self.add_row(slot, name, shard, i, &mut fresh)?;
         }
@@ -68,10 +63,10 @@ impl<P: PinHolder, H: LeafHolder> Plan<P, H> {
         name: &Name,
         shard: &Shard,
         i: usize,
-        fresh: &mut Vec<Name>,
+        fresh: &mut Listing,
     ) -> Result<(), AllocError>
         requires { i < length shard.now.rows }
-        ensures { OnOk result (Grows self.now.known.names fresh.old.items fresh.new.items
+        ensures { OnOk result (Grows self.now.known.names fresh.old fresh.new
             (deps_if (gives self.now.known.request slot name.now shard.now.rows) (slice_get
             shard.now.rows i))) }
     {
@@ -87,8 +82,8 @@ impl<P: PinHolder, H: LeafHolder> Plan<P, H> {
     }
 
     // Adds the names that a record depends on.
-    fn add_deps(&self, view: RecordView<'_>, fresh: &mut Vec<Name>) -> Result<(), AllocError>
-        ensures { OnOk result (Grows self.now.known.names fresh.old.items fresh.new.items
+    fn add_deps(&self, view: RecordView<'_>, fresh: &mut Listing) -> Result<(), AllocError>
+        ensures { OnOk result (Grows self.now.known.names fresh.old fresh.new
             (flat_map names_of_text (seen view.entry).depends)) }
     {
         for i in 0..view.depends_len() {
@@ -98,13 +93,8 @@ impl<P: PinHolder, H: LeafHolder> Plan<P, H> {
     }
 
     // Adds the name of the `depends` text of a place.
-    fn add_at(
-        &self,
-        view: RecordView<'_>,
-        i: usize,
-        fresh: &mut Vec<Name>,
-    ) -> Result<(), AllocError>
-        ensures { OnOk result (Grows self.now.known.names fresh.old.items fresh.new.items
+    fn add_at(&self, view: RecordView<'_>, i: usize, fresh: &mut Listing) -> Result<(), AllocError>
+        ensures { OnOk result (Grows self.now.known.names fresh.old fresh.new
             (names_if (slice_get (seen view.entry).depends i))) }
     {
         match view.depend(i) {
@@ -114,8 +104,8 @@ impl<P: PinHolder, H: LeafHolder> Plan<P, H> {
     }
 
     // Adds the name that a text is about.
-    fn add_text(&self, text: &str, fresh: &mut Vec<Name>) -> Result<(), AllocError>
-        ensures { OnOk result (Grows self.now.known.names fresh.old.items fresh.new.items
+    fn add_text(&self, text: &str, fresh: &mut Listing) -> Result<(), AllocError>
+        ensures { OnOk result (Grows self.now.known.names fresh.old fresh.new
             (names_of_text text.now)) }
     {
         match dependency_name(text) {
@@ -125,9 +115,9 @@ impl<P: PinHolder, H: LeafHolder> Plan<P, H> {
     }
 
     // Adds the name of a text, where it isn't listed.
-    fn add_name(&self, dep: &str, fresh: &mut Vec<Name>) -> Result<(), AllocError>
+    fn add_name(&self, dep: &str, fresh: &mut Listing) -> Result<(), AllocError>
         requires { name_of dep.now ≡ Ok (lower_case dep.now) }
-        ensures { OnOk result (Grows self.now.known.names fresh.old.items fresh.new.items
+        ensures { OnOk result (Grows self.now.known.names fresh.old fresh.new
             (lower_case dep.now ∷ [])) }
     {
         let name = read_name(*self.names.allocator(), dep)?;
@@ -135,8 +125,8 @@ impl<P: PinHolder, H: LeafHolder> Plan<P, H> {
     }
 
     // Adds a name, where it isn't listed.
-    fn add_new(&self, name: Name, fresh: &mut Vec<Name>) -> Result<(), AllocError>
-        ensures { OnOk result (Grows self.now.known.names fresh.old.items fresh.new.items (name
+    fn add_new(&self, name: Name, fresh: &mut Listing) -> Result<(), AllocError>
+        ensures { OnOk result (Grows self.now.known.names fresh.old fresh.new (name
             ∷ [])) }
     {
         if self.is_listed(&name, fresh) {
@@ -147,86 +137,11 @@ impl<P: PinHolder, H: LeafHolder> Plan<P, H> {
     }
 
     // Whether a name is listed or among others.
-    fn is_listed(&self, name: &Name, others: &[Name]) -> bool
+    fn is_listed(&self, name: &Name, others: &Listing) -> bool
         ensures { result ≡ (has_name self.now.known.names name.now || has_name others.now
             name.now) }
     {
-        has(&self.names, name.as_str()) || has(others, name.as_str())
-    }
-
-    // The numbers of the names with some more behind them, by name.
-    pub(crate) fn order_with(&self, fresh: &[Name]) -> Result<Vec<usize>, AllocError>
-        ensures { IfOk result (λ order. IsOrder (self.now.known.names ++ fresh.now)
-            (self.now.known.names ++ fresh.now) order.items) }
-    {
-        let mut order = self.order_copy(fresh)?;
-        for i in 0..fresh.len() {
-            self.put(fresh, i, &mut order)?;
-        }
-        Ok(order)
-    }
-
-    // The numbers of the names, by name.
-    fn order_copy(&self, fresh: &[Name]) -> Result<Vec<usize>, AllocError>
-        ensures { IfOk result (λ order. IsOrder (self.now.known.names ++ fresh.now)
-            self.now.known.names order.items) }
-    {
-        Vec::from_slice(*self.names.allocator(), &self.order)
-    }
-
-    // Puts the number of one of the names behind the listed ones into its place.
-    fn put(&self, fresh: &[Name], i: usize, order: &mut Vec<usize>) -> Result<(), AllocError>
-        requires { i < length fresh.now }
-        ensures { OnOk result ((listed : List (List ℕ)) → IsOrder (self.now.known.names ++
-            fresh.now) listed order.old.items
-            → IsOrder (self.now.known.names ++ fresh.now) (listed ++ name_at fresh.now i ∷ [])
-            order.new.items) }
-    {
-        let number = self.names.len().checked_add(i).ok_or(AllocError)?;
-        match self.place(fresh, number, order) {
-            Some(at) => {
-                order.insert(at, number)?;
-                Ok(())
-            }
-            None => Ok(()),
-        }
-    }
-
-    // The name of a number, of the listed names and some behind them.
-    fn name_among<'a>(&'a self, fresh: &'a [Name], k: usize) -> &'a [u8]
-        ensures { result.now ≡ name_at (self.now.known.names ++ fresh.now) k }
-    {
-        if k < self.names.len() {
-            return self.names[k].as_str().as_bytes();
-        }
-        match fresh.get(k - self.names.len()) {
-            Some(name) => name.as_str().as_bytes(),
-            None => b"",
-        }
-    }
-
-    // Where a name goes among numbers of names, or None where it stands there.
-    fn place(&self, fresh: &[Name], number: usize, order: &[usize]) -> Option<usize>
-        ensures some { IfSome result (λ at. (at ≤ length order.now) × (with_name (name_at
-            (self.now.known.names ++ fresh.now) number)
-            (map (name_at (self.now.known.names ++ fresh.now)) order.now)
-            ≡ insert (map (name_at (self.now.known.names ++ fresh.now)) order.now) at (name_at
-            (self.now.known.names ++ fresh.now) number))) }
-        ensures none { IfNone result (with_name (name_at (self.now.known.names ++ fresh.now) number)
-            (map (name_at (self.now.known.names ++ fresh.now)) order.now)
-            ≡ map (name_at (self.now.known.names ++ fresh.now)) order.now) }
-    {
-        for i in 0..order.len() {
-            match self
-                .name_among(fresh, number)
-                .cmp(self.name_among(fresh, order[i]))
-            {
-                Ordering::Less => return Some(i),
-                Ordering::Equal => return None,
-                Ordering::Greater => {}
-            }
-        }
-        Some(order.len())
+        search(&self.names, &self.order, name.as_str()).is_ok() || others.has(name.as_str())
     }
 }
 
@@ -235,18 +150,6 @@ pub(crate) fn is_same(one: &str, other: &str) -> bool
     ensures { result ≡ is_name one.now other.now }
 {
     one == other
-}
-
-// Whether a name stands in a list.
-pub(crate) fn has(names: &[Name], name: &str) -> bool
-    ensures { result ≡ has_name names.now name.now }
-{
-    for one in names {
-        if is_same(name, one.as_str()) {
-            return true;
-        }
-    }
-    false
 }
 
 // The name of a text that is one.

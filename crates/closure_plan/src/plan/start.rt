@@ -1,23 +1,21 @@
 //! Making a plan.
 
-ghost use Rattle.std.specs.Prelude.{◌≡◌, ◌<◌, ◌≤◌, ◌++◌, ◌∷◌, [], List, ℕ, length, map, IfOk, OnOk, IfSome, IfNone};
-ghost use Rattle.std.specs.List.{flat_map, insert, range_with_len};
-ghost use Rattle.closure_plan.specs.Names.{with_name};
+ghost use Rattle.std.specs.Prelude.{◌≡◌, ◌++◌, ◌∷◌, [], IfOk, OnOk};
+ghost use Rattle.std.specs.List.{flat_map, range_with_len};
 ghost use Rattle.closure_request.specs.Request.{root_names_of};
-ghost use Rattle.closure_plan.specs.Plan.{name_at};
-ghost use Rattle.closure_plan.specs.Fresh.{Grows, IsOrder};
+ghost use Rattle.closure_plan.specs.Fresh.{Grows};
 ghost use Rattle.closure_plan.specs.Start.{IsUntouched, places_in, unpinned};
 
 use crate::holders::{LeafHolder, PinHolder};
+use crate::listing::Listing;
 use crate::plan::Plan;
 use crate::plan::giving::room_for;
-use crate::plan::names::has;
+use crate::plan::order::numbers_with;
 use crate::sources::{Place, Sources};
 use closure_request::Request;
 use conda_name::Name;
 use match_spec::Spec;
 use std::alloc::{AllocError, Global};
-use std::cmp::Ordering;
 
 impl<P: PinHolder, H: LeafHolder> Plan<P, H> {
     /// A plan of a request: nothing is pinned, given or marked, and the names are those of its specs.
@@ -26,7 +24,8 @@ impl<P: PinHolder, H: LeafHolder> Plan<P, H> {
     {
         let places = places_of(alloc, request.channels.len(), request.subdirs.len())?;
         let names = roots(alloc, &request.specs)?;
-        let order = order_of(alloc, &names)?;
+        let order = numbers_with(alloc, &[], &names, &[])?;
+        let owing = numbers_with(alloc, &[], &names, &[])?;
         let pins = no_pins(alloc, places.len())?;
         let room = room_for(places.len(), names.len(), 0)?;
         let marks = Vec::with_capacity(alloc, room)?;
@@ -38,6 +37,7 @@ impl<P: PinHolder, H: LeafHolder> Plan<P, H> {
             },
             names,
             order,
+            owing,
             leaves: Vec::new(alloc),
             marks,
             cells: Vec::new(alloc),
@@ -71,7 +71,15 @@ fn add_places(places: &mut Vec<Place>, channel: usize, subdirs: usize) -> Result
 fn roots(alloc: Global, specs: &[Spec]) -> Result<Vec<Name>, AllocError>
     ensures { IfOk result (λ names. Grows [] [] names.items (root_names_of specs.now)) }
 {
-    let mut names = Vec::new(alloc);
+    let names = root_listing(alloc, specs)?;
+    Ok(names.into_names())
+}
+
+// The same, to be looked up.
+fn root_listing(alloc: Global, specs: &[Spec]) -> Result<Listing, AllocError>
+    ensures { IfOk result (λ names. Grows [] [] names (root_names_of specs.now)) }
+{
+    let mut names = Listing::new(alloc);
     for spec in specs {
         add_root(alloc, spec.name(), &mut names)?;
     }
@@ -79,70 +87,14 @@ fn roots(alloc: Global, specs: &[Spec]) -> Result<Vec<Name>, AllocError>
 }
 
 // Adds a name, where it isn't there.
-fn add_root(alloc: Global, name: &Name, names: &mut Vec<Name>) -> Result<(), AllocError>
-    ensures { OnOk result (Grows [] names.old.items names.new.items (name.now ∷ [])) }
+fn add_root(alloc: Global, name: &Name, names: &mut Listing) -> Result<(), AllocError>
+    ensures { OnOk result (Grows [] names.old names.new (name.now ∷ [])) }
 {
-    if has(names, name.as_str()) {
+    if names.has(name.as_str()) {
         return Ok(());
     }
     names.push(name.copy(alloc)?)?;
     Ok(())
-}
-
-// The numbers of some names, by name.
-fn order_of(alloc: Global, names: &[Name]) -> Result<Vec<usize>, AllocError>
-    ensures { IfOk result (λ order. IsOrder names.now names.now order.items) }
-{
-    let mut order = Vec::new(alloc);
-    for i in 0..names.len() {
-        put_number(names, i, &mut order)?;
-    }
-    Ok(order)
-}
-
-// Puts the number of a name into its place.
-fn put_number(names: &[Name], i: usize, order: &mut Vec<usize>) -> Result<(), AllocError>
-    requires { i < length names.now }
-    ensures { OnOk result ((listed : List (List ℕ)) → IsOrder names.now listed order.old.items
-        → IsOrder names.now (listed ++ name_at names.now i ∷ []) order.new.items) }
-{
-    match place_of_number(names, i, order) {
-        Some(at) => {
-            order.insert(at, i)?;
-            Ok(())
-        }
-        None => Ok(()),
-    }
-}
-
-// The bytes of the name of a number.
-fn bytes_at(names: &[Name], k: usize) -> &[u8]
-    ensures { result.now ≡ name_at names.now k }
-{
-    match names.get(k) {
-        Some(name) => name.as_str().as_bytes(),
-        None => b"",
-    }
-}
-
-// Where a name goes among numbers of names, or None where it stands there.
-fn place_of_number(names: &[Name], number: usize, order: &[usize]) -> Option<usize>
-    ensures some { IfSome result (λ at. (at ≤ length order.now) × (with_name (name_at names.now
-        number)
-        (map (name_at names.now) order.now) ≡ insert (map (name_at names.now) order.now) at
-        (name_at names.now number))) }
-    ensures none { IfNone result (with_name (name_at names.now number) (map (name_at names.now)
-        order.now)
-        ≡ map (name_at names.now) order.now) }
-{
-    for i in 0..order.len() {
-        match bytes_at(names, number).cmp(bytes_at(names, order[i])) {
-            Ordering::Less => return Some(i),
-            Ordering::Equal => return None,
-            Ordering::Greater => {}
-        }
-    }
-    Some(order.len())
 }
 
 // As many slots without a pin.

@@ -9,6 +9,6 @@ use Rattle.closure_plan.proofs.plan.Plan.add_deps.Goals as goal
 pub loop-i-preserved : goal.loop-i-preserved
 loop-i-preserved g c =
     let texts = (seen c.args.view).depends in
-    subst (Grows c.args.self.now.known.names c.args.fresh.now.items c.add_at.new.fresh.items)
+    subst (Grows c.args.self.now.known.names c.args.fresh.now c.add_at.new.fresh)
     (sym (texts_more texts c.loop-i.i [] (subst (λ n. c.loop-i.i < n) c.depends_len-i-end.ensures c.loop-i-test.true)))
-    (grows_both c.args.self.now.known.names c.args.fresh.now.items c.loop-i.fresh.items c.add_at.new.fresh.items (flat_map names_of_text (take c.loop-i.i texts)) (names_if (slice_get texts c.loop-i.i)) c.loop-i.invariant c.in_ok-add_at.ensures)
+    (grows_both c.args.self.now.known.names c.args.fresh.now c.loop-i.fresh c.add_at.new.fresh (flat_map names_of_text (take c.loop-i.i texts)) (names_if (slice_get texts c.loop-i.i)) c.loop-i.invariant c.in_ok-add_at.ensures)

@@ -5,4 +5,4 @@ use Rattle.closure_plan.specs.Fresh.{Grows}
 use Rattle.closure_plan.proofs.plan.Plan.add_deps.Given as goal
 
 abbrev pub invariant-loop-i : goal.invariant-loop-i
-invariant-loop-i g l = Grows l.self.known.names l.initial.fresh.items l.fresh.items (flat_map names_of_text (take l.i (seen l.view).depends))
+invariant-loop-i g l = Grows l.self.known.names l.initial.fresh l.fresh (flat_map names_of_text (take l.i (seen l.view).depends))

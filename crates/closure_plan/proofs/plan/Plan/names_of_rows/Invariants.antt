@@ -4,4 +4,4 @@ use Rattle.closure_plan.specs.Fresh.{Grows}
 use Rattle.closure_plan.proofs.plan.Plan.names_of_rows.Given as goal
 
 abbrev pub invariant-loop-i : goal.invariant-loop-i
-invariant-loop-i g l = Grows l.self.known.names [] l.fresh.items (flat_map deps_of (filter (gives l.self.known.request l.slot l.name l.shard.rows) (take l.i l.shard.rows)))
+invariant-loop-i g l = Grows l.self.known.names [] l.fresh (flat_map deps_of (filter (gives l.self.known.request l.slot l.name l.shard.rows) (take l.i l.shard.rows)))

@@ -6,10 +6,10 @@ use Rattle.closure_plan.proofs.plan.start.add_root.Goals as goal
 
 pub returns-then-has : goal.returns-then-has
 returns-then-has c =
-    let there : has_name c.args.names.now.items c.args.name.now ≡ true = ap (λ ns. has_name ns c.args.name.now) (sym c.deref.ensures.value) ∙ ap (λ n. has_name c.deref.result.now n) (sym c.as_str.ensures.value) ∙ sym c.has.ensures ∙ c.if-has.true in
-    grows_known [] c.args.names.now.items c.args.name.now there
+    let there : has_name c.args.names.now c.args.name.now ≡ true = ap (has_name c.args.names.now) (sym c.as_str.ensures.value) ∙ sym c.has.ensures ∙ c.if-has.true in
+    grows_known [] c.args.names.now c.args.name.now there
 
 pub returns : goal.returns
 returns c =
-    let new : has_name c.args.names.now.items c.args.name.now ≡ false = ap (λ ns. has_name ns c.args.name.now) (sym c.deref.ensures.value) ∙ ap (λ n. has_name c.deref.result.now n) (sym c.as_str.ensures.value) ∙ sym c.has.ensures ∙ c.if-has.false in
-    subst (λ new. Grows [] c.args.names.now.items new (c.args.name.now ∷ [])) (sym (c.in_ok-push.ensures.items ∙ ap (λ m. c.args.names.now.items ++ m ∷ []) c.in_ok-copy.ensures)) (grows_push [] c.args.names.now.items c.args.name.now new)
+    let new : has_name c.args.names.now c.args.name.now ≡ false = ap (has_name c.args.names.now) (sym c.as_str.ensures.value) ∙ sym c.has.ensures ∙ c.if-has.false in
+    subst (λ new. Grows [] c.args.names.now new (c.args.name.now ∷ [])) (sym (c.in_ok-push.ensures ∙ ap (λ m. c.args.names.now ++ m ∷ []) c.in_ok-copy.ensures)) (grows_push [] c.args.names.now c.args.name.now new)

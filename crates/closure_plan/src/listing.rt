@@ -1,0 +1,64 @@
+//! Names in the order in which they came, each of which is found by a binary search.
+
+ghost use Rattle.std.specs.Prelude.{◌≡◌, ◌++◌, ◌∷◌, [], OnOk};
+ghost use Rattle.closure_plan.specs.Names.{has_name};
+
+use crate::plan::order::{put, search};
+use conda_name::Name;
+use std::alloc::{AllocError, Global};
+use std::marker::Model;
+use std::slice;
+
+// Names, and their numbers in the order of names. Contracts see the names.
+#[derive(Drop)]
+pub(crate) struct Listing {
+    names: Vec<Name>,
+    order: Vec<usize>,
+}
+
+impl Model for Listing {
+    ghost use Rattle.std.specs.Prelude.{List, ℕ};
+    ghost use Rattle.closure_plan.specs.Fresh.{IsOrder};
+
+    ghost Value = { List (List ℕ) };
+
+    ghost view = { λ l. l.names.items };
+
+    ghost invariant = { λ l. IsOrder l.names.items l.names.items l.order.items };
+}
+
+impl Listing {
+    // No names.
+    pub(crate) fn new(alloc: Global) -> Listing
+        ensures { result ≡ [] }
+    {
+        Listing {
+            names: Vec::new(alloc),
+            order: Vec::new(alloc),
+        }
+    }
+
+    // Whether a name is there.
+    pub(crate) fn has(&self, name: &str) -> bool
+        ensures { result ≡ has_name self.now name.now }
+    {
+        search(&self.names, &self.order, name).is_ok()
+    }
+
+    // Adds a name behind the others.
+    pub(crate) fn push(&mut self, name: Name) -> Result<(), AllocError>
+        ensures { OnOk result (self.new ≡ self.old ++ name ∷ []) }
+    {
+        self.names.reserve(1)?;
+        put(&self.names, slice::from_ref(&name), 0, &mut self.order)?;
+        self.names.push_reserved(name);
+        Ok(())
+    }
+    // The names.
+    pub(crate) fn into_names(self) -> Vec<Name>
+        ensures { result.items ≡ self }
+    {
+        let Listing { names, order: _ } = self;
+        names
+    }
+}
