@@ -20,7 +20,7 @@ use Rattle.flight_table.specs.Knows.{WasLost, IsAwait, Knows}
 use Rattle.flight_table.proofs.KnowLemmas.{behind, lost_more, await_on}
 
 -- ---- one element more
-last_or_before : {X : Type 0} (x y : X) (xs : List X) → Among y (xs ++ x ∷ []) → Among y xs ⊎ (x ≡ y)
+pub last_or_before : {X : Type 0} (x y : X) (xs : List X) → Among y (xs ++ x ∷ []) → Among y xs ⊎ (x ≡ y)
 last_or_before {X} x y xs among =
     ⊎_elim
     (λ (e : among.0 ≡ length xs). inr (one (sym (get_last xs x) ∙ ap (slice_get (xs ++ x ∷ [])) (sym e) ∙ among.1)))
@@ -31,7 +31,7 @@ last_or_before {X} x y xs among =
     one e = cc
 
 -- an element that stands in no place before stands once
-once_more : {X : Type 0} (x : X) (xs : List X) → IsOnce xs → ¬ Among x xs → IsOnce (xs ++ x ∷ [])
+pub once_more : {X : Type 0} (x : X) (xs : List X) → IsOnce xs → ¬ Among x xs → IsOnce (xs ++ x ∷ [])
 once_more {X} x xs once apart here there y h k =
     ⊎_elim
     (λ (e : here ≡ length xs). ⊎_elim
@@ -53,7 +53,7 @@ once_more {X} x xs once apart here there y h k =
         one : Some x ≡ Some z → x ≡ z
         one i = cc
 
-numbers_more : (f : ℕ) (t : Target) (pairs : List (ℕ × Target)) → map (λ a. a.0) (pairs ++ (f, t) ∷ []) ≡ map (λ a. a.0) pairs ++ f ∷ []
+pub numbers_more : (f : ℕ) (t : Target) (pairs : List (ℕ × Target)) → map (λ a. a.0) (pairs ++ (f, t) ∷ []) ≡ map (λ a. a.0) pairs ++ f ∷ []
 numbers_more f t [] = refl
 numbers_more f t (a ∷ pairs) = ap (λ l. a.0 ∷ l) (numbers_more f t pairs)
 
@@ -65,7 +65,7 @@ number_stands f (a ∷ pairs) among = split (λ n h. number_stands f pairs (n, h
     split more zero h = let same : a.0 ≡ f = cc in (a.1, (zero, ap (λ n. Some (n, a.1)) same))
     split more (suc n) h = let w = more n h in (w.0, (suc w.1.0, w.1.1))
 
-among_before : {X : Type 0} (x y : X) (xs : List X) → Among y xs → Among y (xs ++ x ∷ [])
+pub among_before : {X : Type 0} (x y : X) (xs : List X) → Among y xs → Among y (xs ++ x ∷ [])
 among_before x y xs among = (among.0, get_before_last xs x among.0 (below among.0 (length xs) (slice_get_within xs among.0 y among.1)) ∙ among.1)
   where
     below : (m n : ℕ) → m < n → m ≢ n

@@ -5,3 +5,15 @@ pub mod CloseLemmas
 pub mod HitPassLemmas
 pub mod AwaitLemmas
 pub mod PartLemmas
+pub mod AwaitsLemmas
+pub mod LinesLemmas
+pub mod CountingLemmas
+pub mod FollowLemmas
+pub mod PassLemmas
+pub mod DoorLemmas
+pub mod RisingLemmas
+pub mod TableLemmas
+pub mod SaysLemmas
+pub mod ChangeLemmas
+pub mod CallLemmas
+pub mod AnswerLemmas

@@ -14,12 +14,12 @@ use Rattle.flight_table.specs.Tells.{Tells, HoldsTheSame}
 use Rattle.flight_table.proofs.KnowLemmas.{knows_more}
 
 -- ---- a front of a legal journal
-front_from : (budget : ℕ) (s : State) (front rest : List Entry) → LegalFrom budget s (front ++ rest) → LegalFrom budget s front
+pub front_from : (budget : ℕ) (s : State) (front rest : List Entry) → LegalFrom budget s (front ++ rest) → LegalFrom budget s front
 unfolding LegalFrom
 front_from budget s [] rest legal = tt
 front_from budget s (e ∷ front) rest legal = (legal.0, front_from budget (step s e) front rest legal.1)
 
-next_from : (budget : ℕ) (s : State) (front : List Entry) (e : Entry) (rest : List Entry) → LegalFrom budget s (front ++ e ∷ rest) → Allowed budget (after_from s front) e
+pub next_from : (budget : ℕ) (s : State) (front : List Entry) (e : Entry) (rest : List Entry) → LegalFrom budget s (front ++ e ∷ rest) → Allowed budget (after_from s front) e
 unfolding LegalFrom after_from
 next_from budget s [] e rest legal = legal.0
 next_from budget s (x ∷ front) e rest legal = next_from budget (step s x) front e rest legal.1

@@ -1,5 +1,6 @@
 -- What a pass and a door say. They are plain data that contracts alone see.
-use Rattle.std.specs.Prelude.{◌≢◌, ℕ, ◌+◌, Bool, true, false, List, [], ◌∷◌, ◌++◌, map, Option, Some, None}
+use Rattle.std.specs.Prelude.{◌≢◌, ℕ, ◌+◌, ◌==◌, Bool, true, false, if◌then◌else◌, List, [], ◌∷◌, ◌++◌, map, Option, Some, None}
+use Rattle.std.specs.List.{list_any}
 use Rattle.link_io.specs.Origin.{Origin}
 use Rattle.link_io.specs.declared.target.Key.{Key}
 use Rattle.link_io.specs.declared.target.Target.{Target}
@@ -62,3 +63,27 @@ lost_pass rest p = record p { calls = p.calls + 1; losses = p.losses + 1; hand =
 -- the pass of a query that has just taken an owed value, which may be a wreck, and awaits the rest
 abbrev pub taken_pass : List ℕ → List (ℕ × Target) → Facts → Facts
 taken_pass wreck rest p = record p { calls = p.calls + 1; wrecks = p.wrecks ++ wreck; awaits = rest }
+
+-- these awaited flights but one
+abbrev pub awaits_but : ℕ → List (ℕ × Target) → List (ℕ × Target)
+awaits_but f [] = []
+awaits_but f (a ∷ awaits) = if a.0 == f then awaits_but f awaits else a ∷ awaits_but f awaits
+
+-- whether a flight is among these
+abbrev pub is_awaited : ℕ → List (ℕ × Target) → Bool
+is_awaited f awaits = list_any (λ a. a.0 == f) awaits
+
+-- the pass of a query that has just taken a parcel in hand, and one that has just put it back
+abbrev pub holding_pass : ℕ → Facts → Facts
+holding_pass f p = record p { hand = Some f }
+
+abbrev pub freed_pass : Facts → Facts
+freed_pass p = record p { hand = None }
+
+-- the pass of a query that has just found an awaited flight lost by another query
+abbrev pub missed_pass : ℕ → Facts → Facts
+missed_pass f p = record p { awaits = awaits_but f p.awaits; lost = p.lost ++ f ∷ [] }
+
+-- the same of any flight; one that is not awaited changes nothing
+abbrev pub missing_pass : ℕ → Facts → Facts
+missing_pass f p = if is_awaited f p.awaits then missed_pass f p else p

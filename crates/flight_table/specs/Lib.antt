@@ -1,5 +1,10 @@
 pub mod Facts
 pub mod Knows
 pub mod Tells
+pub mod Doors
+pub mod Lines
+pub mod Follows
+pub mod Saying
 pub use Rattle.flight_rows.specs.Sight
 pub use Rattle.flight_rows.specs.Serves
+pub use Rattle.pass_book.specs.Lines as BookLines
