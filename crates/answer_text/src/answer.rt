@@ -34,12 +34,7 @@ pub fn put_answer<P: PinHolder, H: LeafHolder>(
 /// Appends the line of the request of a number that was refused: `request NUMBER refused SPEC FAULT`.
 ///
 /// At want of memory the vector is as before.
-pub fn put_refused(
-    out: &mut Vec<u8>,
-    number: u64,
-    spec: u64,
-    fault: u8,
-) -> Result<(), AllocError>
+pub fn put_refused(out: &mut Vec<u8>, number: u64, spec: u64, fault: u8) -> Result<(), AllocError>
     ensures ok { OnOk result (out.new.items
         ≡ out.old.items ++ refused_line number spec fault) }
     ensures unchanged { OnErr result (out.new.items ≡ out.old.items) }
@@ -76,12 +71,7 @@ fn put_ok_line(out: &mut Vec<u8>, number: u64, rows: usize) -> Result<(), AllocE
 }
 
 // Appends the line of a refused request; at want of memory a front of it may stand.
-fn put_refused_line(
-    out: &mut Vec<u8>,
-    number: u64,
-    spec: u64,
-    fault: u8,
-) -> Result<(), AllocError>
+fn put_refused_line(out: &mut Vec<u8>, number: u64, spec: u64, fault: u8) -> Result<(), AllocError>
     ensures ok { OnOk result (out.new.items
         ≡ out.old.items ++ refused_line number spec fault) }
     ensures kept { OnErr result (take (length out.old.items) out.new.items ≡ out.old.items) }

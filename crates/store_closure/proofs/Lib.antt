@@ -1,0 +1,7 @@
+pub mod RunLemmas
+pub mod PlaceLemmas
+pub mod FileLemmas
+pub mod LineLemmas
+pub mod EndLemmas
+pub mod NameLemmas
+pub mod LoopLemmas
