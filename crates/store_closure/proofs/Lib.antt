@@ -5,3 +5,4 @@ pub mod LineLemmas
 pub mod EndLemmas
 pub mod NameLemmas
 pub mod LoopLemmas
+pub mod PieceLemmas

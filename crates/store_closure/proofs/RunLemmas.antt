@@ -1,18 +1,17 @@
 -- Runs over the files of a store, need by need.
-use Rattle.std.proofs.Common.{◌≡◌, ℕ, zero, suc, ◌∷◌, [], List, map, length, Option, Some, None, IfSome, Result, Ok, Err, true, refl, sym, ap, subst, ◌∙◌}
+use Rattle.std.proofs.Common.{◌≡◌, ℕ, zero, suc, ◌∷◌, [], map, length, Option, Some, None, IfSome, Result, Ok, Err, refl, sym, ap, subst, ◌∙◌}
 use Rattle.std.specs.List.{slice_set, list_all}
 use Rattle.gateway_words.specs.Reading.{◌>>=◌}
 use Rattle.channel_store.specs.Store.{Files}
 use Rattle.closure_request.specs.Request.{Asking}
 use Rattle.closure_request.specs.Slots.{slots}
-use Rattle.closure_plan.specs.Plan.{Planned, its_next, its_done, wish_of}
+use Rattle.closure_plan.specs.Plan.{Planned, its_next, wish_of}
 use Rattle.closure_plan.specs.Start.{IsUntouched, unpinned}
-use Rattle.closure_plan.specs.Needs.{Wish, next_wish, is_given, needs}
-use Rattle.closure_plan.specs.Closure.{Found, closure}
+use Rattle.closure_plan.specs.Needs.{Wish, next_wish}
 use Rattle.store_closure.specs.declared.holders.OwnPin.{OwnPin}
 use Rattle.store_closure.specs.declared.holders.OwnLeaf.{OwnLeaf}
 use Rattle.store_closure.specs.declared.stop.BadFile.{BadFile}
-use Rattle.store_closure.specs.Runs.{Taken, nothing, with_need, with_next, step, ComesTo, IsAnswer, StopsAt}
+use Rattle.store_closure.specs.Runs.{Taken, nothing, with_need, with_next, step, ComesTo, StopsAt}
 use Rattle.store_closure.specs.Stops.{its_index, its_shard, taken, IsUnderWay}
 
 -- where nothing is pinned, nothing was taken in
@@ -82,15 +81,3 @@ module _ (r : Asking) (p : Planned OwnPin OwnLeaf) (w : Wish) (files now : Optio
       → IfSome bad (λ b. IfSome files (λ told. StopsAt told r b))
   halts None is = tt
   halts (Some b) is = stops r p w files b way next (subst (λ (fs : Option Files). IfSome fs (λ told. with_need told p.known.request (taken p.known) w ≡ Err b)) same is)
-
--- a plan under way whose needs are given has the answer
-pub ends : (files : Option Files) (r : Asking) (p : Planned OwnPin OwnLeaf) (rows : List Found) → IsUnderWay files r p
-    → its_done its_index its_shard p.known ≡ true → rows ≡ closure p.known.request (taken p.known).pins (taken p.known).leaves
-    → IfSome files (λ told. IsAnswer told r rows)
-ends None r p rows way done are = tt
-ends (Some told) r p rows way done are = record {
-  taken = taken p.known;
-  run = way.run;
-  whole = ap (λ (a : Asking). list_all (is_given (taken p.known).pins (taken p.known).leaves) (needs a (taken p.known).pins (taken p.known).leaves)) (sym way.request) ∙ done;
-  are = are ∙ ap (λ (a : Asking). closure a (taken p.known).pins (taken p.known).leaves) way.request;
-}

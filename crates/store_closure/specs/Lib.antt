@@ -4,6 +4,8 @@ pub mod Runs
 pub mod Stops
 pub mod Seen
 pub mod Asked
+pub mod Pieces
+pub mod Options
 pub mod Lines
 pub mod Puts
 pub mod Laws

@@ -60,7 +60,8 @@ pub(crate) fn leaf_at<S: Store>(
     digest: Digest,
 ) -> Result<Leaf, Stop>
     ensures gives { IfSome (S.files store.old) (λ told. Gives (λ leaf. leaf.rows) bad_of result
-        (of_file (shard_name place.now (text_of digest)) (λ rows. rows) (rows_in told place.now digest))) }
+        (of_file (shard_name place.now (text_of digest)) (λ rows. rows)
+        (rows_in told place.now digest))) }
     ensures digest { IfOk result (λ leaf. digest_of leaf.bytes ≡ digest) }
     ensures same { S.files store.new ≡ S.files store.old }
     ensures later { S.faults store.old ≤ S.faults store.new }

@@ -3,7 +3,8 @@
 //! Contracts see the store's files, where it tells them. `specs/Files` says what a file says, or why
 //! it is bad, and `specs/Runs` what a run over the files comes to: the rows of the answer, or the
 //! first file that is bad. The layer above makes a request and the places of its slots, and calls
-//! `closure_over`, or calls `StoreRequests::answers` for the lines of an input, whose ends `specs/Lines` says.
+//! `closure_over`; or it reads options (`closure_words`, `specs/Options`) and calls
+//! `StoreRequests::answers` for the lines of an input, whose ends `specs/Lines` says.
 #![tactic(auto)]
 
 mod asked;
@@ -15,6 +16,7 @@ mod names;
 mod places;
 mod run;
 mod stop;
+mod words;
 
 pub use asked::{Answers, StoreRequests};
 pub use holders::{OwnLeaf, OwnPin};
@@ -23,3 +25,4 @@ pub use lines::has_more_lines;
 pub use places::{ChannelName, StorePlace, SubdirName, places_of};
 pub use run::closure_over;
 pub use stop::{BadFile, FileWhy, Stop};
+pub use words::{OptionsRefusal, closure_words};
