@@ -19,11 +19,6 @@ use Rattle.mp_codec.proofs.KeyLemmas.{same_bytes}
 use Rattle.mp_codec.proofs.NameSetLemmas.{name_cmp, is_name, has_more}
 use Rattle.shard_file.specs.Names.{name_lt, IsRising, IsBehind, is_among}
 
-or_swap : (a b c : Bool) → (a || (b || c)) ≡ (b || (a || c))
-or_swap true true c = refl
-or_swap true false c = refl
-or_swap false b c = refl
-
 -- ---- names that rise
 
 -- names are in one order
