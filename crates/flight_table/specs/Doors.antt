@@ -27,10 +27,11 @@ abbrev pub first_door : ℕ → List Target → Origin → Gate
 first_door keep start origin =
     record { weight = whole; opened = 0; cancelled = 0; refreshed = 0; keep = keep; start = start; origin = origin }
 
--- a door from which another one was split off, and that one
+-- a door from which another one was split off
 abbrev pub lighter_door : Gate → Gate
 lighter_door d = record d { weight = d.weight - 1 }
 
+-- the door that was split off: of weight 1, without numbers
 abbrev pub split_off : Gate → Gate
 split_off d = record d { weight = 1; opened = 0; cancelled = 0; refreshed = 0 }
 
@@ -39,25 +40,31 @@ abbrev pub joined_door : Gate → Gate → Gate
 joined_door d e =
     record d { weight = d.weight + e.weight; opened = d.opened + e.opened; cancelled = d.cancelled + e.cancelled; refreshed = d.refreshed + e.refreshed }
 
--- a door that opened one query more, cancelled one more, or gave up so many indexes more
+-- a door that opened one query more
 abbrev pub opening_door : Gate → Gate
 opening_door d = record d { opened = d.opened + 1 }
 
+-- a door that cancelled one query more
 abbrev pub cancelling_door : Gate → Gate
 cancelling_door d = record d { cancelled = d.cancelled + 1 }
 
+-- a door that gave up one index more, where one was kept
 abbrev pub refreshing_door : Bool → Gate → Gate
 refreshing_door given_up d = record d { refreshed = d.refreshed + one_if given_up }
 
 -- ---- what a journal says of all doors together
+
+-- the entry opens a query
 abbrev pub opens : Entry → Bool
 opens (Opened q) = true
 opens _ = false
 
+-- the entry cancels a query
 abbrev pub cancels : Entry → Bool
 cancels (Cancelled q) = true
 cancels _ = false
 
+-- the entry gives up a kept index
 abbrev pub refreshes : Entry → Bool
 refreshes (Refreshed f) = true
 refreshes _ = false

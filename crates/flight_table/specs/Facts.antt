@@ -77,6 +77,7 @@ is_awaited f awaits = list_any (λ a. a.0 == f) awaits
 abbrev pub holding_pass : ℕ → Facts → Facts
 holding_pass f p = record p { hand = Some f }
 
+-- the pass of a query that holds no parcel any more
 abbrev pub freed_pass : Facts → Facts
 freed_pass p = record p { hand = None }
 

@@ -13,20 +13,24 @@ use mathlib.Core.Logic.{inl, inr}
 abbrev pub Said : Type 0
 Said = Facts ⊎ Gate
 
+-- the line of a pass
 abbrev pub of_pass : Facts → Said
 of_pass p = inl p
 
+-- the line of a door
 abbrev pub of_door : Gate → Said
 of_door d = inr d
 
+-- the origin of connections without layers and without a world
 abbrev pub plain_origin : Origin
 plain_origin = record { layers = []; world = None }
 
--- what a line's pass says; what a line's door says
+-- what a line's pass says
 abbrev pub pass_in : Said → Facts
 pass_in (inl p) = p
 pass_in (inr d) = new_pass 0 0 plain_origin
 
+-- what a line's door says
 abbrev pub door_in : Said → Gate
 door_in (inl p) = first_door 0 [] plain_origin
 door_in (inr d) = d

@@ -31,6 +31,7 @@ abbrev pub target_of : Option Flight → Target
 target_of None = record { key = key.Index []; url = [] }
 target_of (Some x) = x.target
 
+-- the target of the flight of a number
 abbrev pub target_at : State → ℕ → Target
 target_at s f = target_of (slice_get s.flights f)
 
@@ -53,23 +54,25 @@ marked_by mark.Opens d = opening_door d
 marked_by mark.Cancels d = cancelling_door d
 marked_by (mark.Refreshes given_up) d = refreshing_door given_up d
 
--- whether a call writes an entry of the query, and whether the query leaves by it
+-- whether a call writes an entry of the query
 abbrev pub is_entry : Change → Bool
 is_entry (change.Holds f) = false
 is_entry change.Frees = false
 is_entry (change.Misses f) = false
 is_entry _ = true
 
+-- whether the query leaves by the call
 abbrev pub leaves : Change → Bool
 leaves change.Leaves = true
 leaves _ = false
 
--- what an answer of `ask` means for the pass, and which flight the query awaits from then on
+-- what an answer of `ask` means for the pass
 abbrev pub asked_change : {V : Type 0} → Asked V → Change
 asked_change (asked.Kept f v) = change.Hits f
 asked_change (asked.Joined f) = change.Awaits f
 asked_change (asked.Began f) = change.Awaits f
 
+-- the flight that the query awaits from then on, if it does
 abbrev pub entered_in : {V : Type 0} → Asked V → Option ℕ
 entered_in (asked.Kept f v) = None
 entered_in (asked.Joined f) = Some f

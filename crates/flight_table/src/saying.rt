@@ -222,7 +222,8 @@ fn say<N: Naming, D: Dial, V: Landed, W: NewLine<Saying>>(
     requires { W.line ≡ of_pass (said_by change flights.now (pass_in slip.old.1)) }
     ensures lines { book.new ≡ slice_set book.old slip.old.0
         (Some (of_pass (said_by change flights.now (pass_in slip.old.1)))) }
-    ensures slip { slip.new ≡ (slip.old.0, of_pass (said_by change flights.now (pass_in slip.old.1))) }
+    ensures slip { slip.new
+        ≡ (slip.old.0, of_pass (said_by change flights.now (pass_in slip.old.1))) }
     ensures agrees { HasLine book.old slip.old.0 slip.old.1 }
 {
     let _flights = flights;
