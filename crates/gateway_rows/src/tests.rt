@@ -24,6 +24,6 @@ pub const ONE_LINE: &str = "a-1-0.conda 1 0 0\n";
 pub fn seen(answer: (u8, Note)) -> (u8, Option<FormatFault>) {
     match answer.1 {
         Note::Shard(fault) => (answer.0, Some(fault)),
-        Note::Nothing | Note::Indexing(_) => (answer.0, None),
+        Note::Nothing | Note::Indexing(_) | Note::File(_, _) => (answer.0, None),
     }
 }

@@ -1,3 +1,5 @@
 mod LeadLemmas
 mod TextLemmas
+mod ClosureLemmas
 mod WordLemmas
+mod AnswerLemmas

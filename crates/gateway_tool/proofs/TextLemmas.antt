@@ -1,5 +1,5 @@
 -- Texts of the elements of a list, one element more.
-use Rattle.std.proofs.Common.{◌≡◌, ℕ, ◌+◌, ◌<◌, None, Some, Bool, true, false, cond, List, [], ◌∷◌, ◌++◌, length, take, slice_get, IsTrue, ◌↔◌, refl, sym, ◌∙◌, ap, append-nil, inl, inr, arith, true≢false}
+use Rattle.std.proofs.Common.{◌≡◌, ℕ, ◌+◌, ◌<◌, None, Some, Bool, true, false, cond, List, [], ◌∷◌, ◌++◌, length, take, slice_get, sym, ◌∙◌, ap, append-nil, inl, inr, arith}
 use Rattle.std.specs.List.{filter, flat_map}
 use Rattle.std.proofs.lemmas.List.{take_more}
 use Rattle.std.proofs.lemmas.List.Concat.{flat_map-append}

@@ -8,6 +8,10 @@ use Rattle.gateway_words.specs.Causes.{Rose}
 abbrev pub status_ok : ℕ
 status_ok = 0
 
+-- a line of the input was refused
+abbrev pub status_not_answered : ℕ
+status_not_answered = 1
+
 -- the words are not those of a command
 abbrev pub status_usage : ℕ
 status_usage = 2
@@ -39,7 +43,7 @@ status_bad_file = 8
 -- the lines that are printed on standard error, with their statuses
 abbrev pub status_lines : List (ℕ × List ℕ)
 status_lines =
-    (status_usage, codes "gateway: usage") ∷ (status_read_fault, codes "gateway: read fault") ∷ (status_write_fault, codes "gateway: write fault")
+    (status_not_answered, codes "gateway: some requests were not answered") ∷ (status_usage, codes "gateway: usage") ∷ (status_read_fault, codes "gateway: read fault") ∷ (status_write_fault, codes "gateway: write fault")
     ∷ (status_out_of_memory, codes "gateway: out of memory") ∷ (status_too_much_input, codes "gateway: too much input") ∷ (status_store_fault, codes "gateway: store fault")
     ∷ (status_bad_file, codes "gateway: bad file") ∷ []
 

@@ -1,7 +1,9 @@
-//! The commands over an input and a store of files: `show` and `index`.
-ghost use Rattle.gateway_tool.specs.Command.{command_of, outside, FilesAnswers, LeavesAlone};
+//! The commands over an input and a store of files: `show`, `index` and `closure`.
+ghost use Rattle.gateway_tool.specs.Command.{command_of, FilesAnswers, LeavesAlone};
+ghost use Rattle.gateway_tool.specs.Outside.{outside};
 
 use crate::Note;
+use crate::closure::closure;
 use crate::index::index;
 use crate::show::show;
 use crate::status::{OUT_OF_MEMORY, USAGE};
@@ -11,15 +13,21 @@ use link_io::{Sink, Source};
 use mp_codec::Text;
 use std::alloc::Global;
 
-/// Does the command that the words are: `show` and a spec, as `run_show` does, or `index` and a
-/// place of the store. The answer is the status, and what a bad file is.
+/// Does the command that the words are: `show` and a spec, as `run_show` does, `index` and a place
+/// of the store, or `closure` and its options. The answer is the status, and what a bad file is.
 ///
 /// `index` reads `repodata.json` of the place, puts a shard for each package name and last the
 /// index, and prints a line with the numbers of names, files, shards written and shards kept. It
-/// reads no input. `USAGE` where the words are neither; `STORE_FAULT` where a call of the store
+/// reads no input. `USAGE` where the words are of no command; `STORE_FAULT` where a call of the store
 /// failed; `BAD_FILE` where `repodata.json` is absent, too long or not indexable, or makes a shard
 /// or an index that is too long; `WRITE_FAULT` where a write failed, with all files put.
-/// `OUT_OF_MEMORY` may come at any place. (`docs/FORMATS.md`, "Indexing" and "Statuses".)
+/// `OUT_OF_MEMORY` may come at any place.
+///
+/// `closure` reads an input of requests, one a line, and then the index and the shards that each of
+/// them needs, and writes the answers. `NOT_ANSWERED` where a line was refused: the text has its
+/// refusal. `READ_FAULT` or `TOO_MUCH_INPUT` (more than 1,048,576 bytes, or 4,096 lines) as reading
+/// the whole input meets them; `BAD_FILE` at the first file that is bad, by lines and then in the order
+/// of the needs. Except with `WRITE_FAULT` all of the text was written, or none. (`docs/FORMATS.md`, "Indexing" and "Statuses".)
 pub fn run_files<I: Source, O: Sink, S: Store>(
     alloc: Global,
     words: &[Text],
@@ -41,6 +49,7 @@ pub fn run_files<I: Source, O: Sink, S: Store>(
     match command_of(alloc, words) {
         Ok(Command::Show(spec)) => show(alloc, &spec, input, out),
         Ok(Command::Index(place)) => index(alloc, place, out, store),
+        Ok(Command::Closure(asked)) => closure(alloc, &asked, input, out, store),
         Err(WordsRefusal::Usage) => (USAGE, Note::Nothing),
         Err(WordsRefusal::Memory) => (OUT_OF_MEMORY, Note::Nothing),
     }

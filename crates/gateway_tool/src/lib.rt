@@ -3,10 +3,11 @@
 //! Contracts see the words as texts, the input as the bytes that its source has left, and the
 //! output as the bytes that its sink took, where they are told (`link_io`). `specs/Words` says
 //! which words are a command, `specs/Texts` what is printed, `specs/Show` what an input leads to,
-//! and `specs/Index` what becomes of a store. A program makes the real source, sink and store,
+//! `specs/Index` what becomes of a store, and `specs/Closure` how requests are answered. A program makes the real source, sink and store,
 //! makes one call, prints the status's line and ends with the status.
 #![tactic(auto)]
 
+mod closure;
 mod files;
 mod index;
 mod note;
@@ -19,6 +20,6 @@ pub use files::run_files;
 pub use note::Note;
 pub use show::run_show;
 pub use status::{
-    BAD_FILE, OK, OUT_OF_MEMORY, READ_FAULT, STORE_FAULT, TOO_MUCH_INPUT, USAGE, WRITE_FAULT,
-    status_line,
+    BAD_FILE, NOT_ANSWERED, OK, OUT_OF_MEMORY, READ_FAULT, STORE_FAULT, TOO_MUCH_INPUT, USAGE,
+    WRITE_FAULT, status_line,
 };

@@ -1,7 +1,8 @@
 //! What a command tells beside its status.
 
 use channel_indexer::IndexFault;
-use mp_codec::FormatFault;
+use mp_codec::{FormatFault, Text};
+use store_closure::FileWhy;
 
 /// What a command tells beside its status.
 #[derive(Debug, Drop)]
@@ -12,4 +13,6 @@ pub enum Note {
     Shard(FormatFault),
     /// A place can't be indexed, by the file that stands there.
     Indexing(IndexFault),
+    /// A file of the store that `closure` needs is bad: its store name, and why.
+    File(Text, FileWhy),
 }

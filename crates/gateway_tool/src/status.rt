@@ -6,6 +6,10 @@ ghost use Rattle.gateway_tool.specs.Status.{line_of};
 /// The input was read to its end, and all was written.
 pub const OK: u8 = 0;
 
+/// A line of the input is no request. What it was refused for was written, as the answers of the
+/// others were.
+pub const NOT_ANSWERED: u8 = 1;
+
 /// The words are not those of a command.
 pub const USAGE: u8 = 2;
 
@@ -18,14 +22,15 @@ pub const WRITE_FAULT: u8 = 4;
 /// Memory ran out.
 pub const OUT_OF_MEMORY: u8 = 5;
 
-/// The input has more bytes than its limit.
+/// The input has more bytes, or more lines, than its limit.
 pub const TOO_MUCH_INPUT: u8 = 6;
 
 /// A call of the store failed.
 pub const STORE_FAULT: u8 = 7;
 
-/// A file is not what the command needs: the input of `show` is no shard, or the file that `index`
-/// reads is absent, too long or not indexable.
+/// A file is not what the command needs: the input of `show` is no shard, the file that `index`
+/// reads is absent, too long or not indexable, or an index or a shard that `closure` needs is absent,
+/// too long, of another digest or of another form.
 pub const BAD_FILE: u8 = 8;
 
 /// The line that is printed on standard error for a status, without its newline. `OK` has none,
@@ -34,6 +39,7 @@ pub fn status_line(status: u8) -> Option<&'static str>
     ensures { option_copied result ≡ line_of status }
 {
     match status {
+        NOT_ANSWERED => Some("gateway: some requests were not answered"),
         USAGE => Some("gateway: usage"),
         READ_FAULT => Some("gateway: read fault"),
         WRITE_FAULT => Some("gateway: write fault"),

@@ -4,12 +4,13 @@ ghost use Rattle.channel_store.specs.Names.{is_place};
 ghost use Rattle.std.specs.Option.{option_copied};
 ghost use Rattle.gateway_tool.specs.Words.{is_option, spec_word, place_word, show_words, index_words, shown_spec};
 ghost use Rattle.gateway_tool.specs.Command.{command_of};
-ghost use Rattle.gateway_tool.specs.Meant.{meant, HasPlace, IsShow};
+ghost use Rattle.gateway_tool.specs.Meant.{meant, HasPlace, TakesMemory};
 
 use channel_store::is_place;
 use match_spec::{Spec, SpecRefusal};
 use mp_codec::Text;
 use std::alloc::Global;
+use store_closure::{OptionsRefusal, StoreRequests, closure_words};
 
 // Why words were not read.
 #[derive(Clone, Copy, Debug)]
@@ -27,6 +28,8 @@ pub(crate) enum Command<'a> {
     Show(Spec),
     // That a place be indexed.
     Index(&'a str),
+    // The answers to requests, of channels of the store.
+    Closure(StoreRequests),
 }
 
 // What the words ask for.
@@ -34,8 +37,9 @@ pub(crate) fn command_of(alloc: Global, words: &[Text]) -> Result<Command<'_>, W
     ensures found { IfOk result (λ command. command_of words.now ≡ Some (meant command)) }
     ensures place { IfOk result HasPlace }
     ensures usage { IsErrOf result WordsRefusal.Usage → command_of words.now ≡ None }
-    // Memory is taken for a spec alone.
-    ensures memory { IsErrOf result WordsRefusal.Memory → IfSome (command_of words.now) IsShow }
+    // No memory is taken for a place.
+    ensures memory { IsErrOf result WordsRefusal.Memory
+        → IfSome (command_of words.now) TakesMemory }
 {
     let [name, words @ ..] = words else {
         return Err(WordsRefusal::Usage);
@@ -47,6 +51,13 @@ pub(crate) fn command_of(alloc: Global, words: &[Text]) -> Result<Command<'_>, W
         return match index_words(words) {
             Some(place) => Ok(Command::Index(place)),
             None => Err(WordsRefusal::Usage),
+        };
+    }
+    if name.as_str() == "closure" {
+        return match closure_words(alloc, words) {
+            Ok(asked) => Ok(Command::Closure(asked)),
+            Err(OptionsRefusal::Usage) => Err(WordsRefusal::Usage),
+            Err(OptionsRefusal::Memory) => Err(WordsRefusal::Memory),
         };
     }
     Err(WordsRefusal::Usage)

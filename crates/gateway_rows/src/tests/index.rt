@@ -77,6 +77,7 @@ fn said(note: &Note) -> &str {
     match note {
         Note::Nothing => "",
         Note::Shard(_) => "a shard",
+        Note::File(_, _) => "a file",
         Note::Indexing(IndexFault::NoFile) => "no file",
         Note::Indexing(IndexFault::Json) => "json",
         Note::Indexing(IndexFault::Fields(file)) => file.as_str(),

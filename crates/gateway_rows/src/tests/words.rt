@@ -3,8 +3,8 @@
 use crate::tests::{ONE_FILE, ONE_LINE, ROOM, seen};
 use crate::{bytes_of, show, sink, source, words_of};
 use gateway_tool::{
-    BAD_FILE, OK, OUT_OF_MEMORY, READ_FAULT, STORE_FAULT, TOO_MUCH_INPUT, USAGE, WRITE_FAULT,
-    run_show, status_line,
+    BAD_FILE, NOT_ANSWERED, OK, OUT_OF_MEMORY, READ_FAULT, STORE_FAULT, TOO_MUCH_INPUT, USAGE,
+    WRITE_FAULT, run_show, status_line,
 };
 use std::test::Fail;
 
@@ -96,6 +96,11 @@ fn shows_the_file_where_the_spec_matches_it(rt: HostRuntime) -> Result<(), Fail>
 fn each_status_has_its_number_and_its_line(rt: HostRuntime) {
     for (status, number, line) in [
         (OK, 0, None),
+        (
+            NOT_ANSWERED,
+            1,
+            Some("gateway: some requests were not answered"),
+        ),
         (USAGE, 2, Some("gateway: usage")),
         (READ_FAULT, 3, Some("gateway: read fault")),
         (WRITE_FAULT, 4, Some("gateway: write fault")),

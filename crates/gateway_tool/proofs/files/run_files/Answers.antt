@@ -1,5 +1,7 @@
 use Rattle.std.proofs.Common.{refl, rules}
-use Rattle.gateway_tool.specs.Command.{command_of, outside}
+use Rattle.gateway_tool.specs.Command.{command_of}
+use Rattle.gateway_tool.specs.Outside.{outside}
+use Rattle.gateway_tool.proofs.AnswerLemmas.{closure_answers}
 use Rattle.gateway_tool.proofs.WordLemmas.{nothing_is_done, index_answers}
 use Rattle.gateway_tool.proofs.files.run_files.Goals as goal
 
@@ -14,3 +16,8 @@ pub returns-in-Ok-Index-clause-answers : goal.returns-in-Ok-Index-clause-answers
 returns-in-Ok-Index-clause-answers g c =
     index_answers c.args.words.now c.in-Ok-Index.place.now (g.I.Source.left c.args.input.now) (g.I.Source.faults c.args.input.now) c.index.result.0 c.index.result.1 _ _ refl refl refl refl
     (search rules) c.index.ensures.answers c.index.ensures.write_fault c.index.ensures.store_fault
+
+pub returns-in-Ok-Closure-clause-answers : goal.returns-in-Ok-Closure-clause-answers
+returns-in-Ok-Closure-clause-answers g c =
+    closure_answers c.args.words.now c.in-Ok-Closure.asked c.closure.result.0 c.closure.result.1 _ _
+    (search rules) c.closure.ensures.answers c.closure.ensures.read_fault c.closure.ensures.write_fault c.closure.ensures.store_fault c.closure.ensures.stops
