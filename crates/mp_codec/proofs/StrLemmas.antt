@@ -53,13 +53,6 @@ str_read bytes here there s =
     bind_ok (head_from here) (λ h. bytes_or_skipped (str_len h.0) here h.1) (head.Str (length bytes), s.mid) s.head
     ∙ bind_ok (bytes_from (length bytes) s.mid) (λ t. Ok (Some t.0, t.1)) (bytes, there) s.payload
 
--- and as a node without values in it
-pub node_read : (bytes : List ℕ) (here there : Position) → IsStr bytes here there → node_from here ≡ Ok (head.Str (length bytes), bytes, there)
-unfolding node_from
-node_read bytes here there s =
-    bind_ok (head_from here) (λ h. bytes_from (payload_len h.0) h.1 >>= λ p. Ok (h.0, p.0, p.1)) (head.Str (length bytes), s.mid) s.head
-    ∙ bind_ok (bytes_from (length bytes) s.mid) (λ p. Ok (head.Str (length bytes), p.0, p.1)) (bytes, there) s.payload
-
 -- and as text, where it is text
 pub text_read : (bytes : List ℕ) (here there : Position) → IsStr bytes here there → is_utf8 bytes ≡ true → text_from here ≡ Ok (bytes, there)
 unfolding text_from

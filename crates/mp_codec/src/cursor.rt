@@ -3,6 +3,7 @@
 ghost use Rattle.std.specs.Prelude.{◌≡◌, ◌+◌, ◌<◌, ◌^◌, ◌==◌, ◌≤◌, List, ℕ, length, Ok, Some, IfSome, IsOk, IfOk, IfErr, OnOk, OnErr, IsErrOf};
 ghost use Rattle.gateway_words.specs.Places.{Position, Between, start_of, behind};
 ghost use Rattle.mp_codec.specs.declared.head.Head.{Head};
+ghost use Rattle.mp_codec.specs.Format.{head_at, node_size};
 ghost use Rattle.mp_codec.specs.declared.fault.FormatFault.{FormatFault};
 ghost use Rattle.mp_codec.specs.Value.{Value};
 ghost use Rattle.mp_codec.specs.Maps.{IsStr, number_from};
@@ -11,7 +12,7 @@ ghost use Rattle.mp_codec.specs.Spelling.{HeadLies, Lies, Breaks, short};
 ghost use Rattle.mp_codec.specs.Reading.{Steps, Passes, NodePasses, PassesLeaf, head_fault, head_from, bytes_from, node_from, values_from};
 
 use crate::fault::{FaultKind, FormatFault};
-use crate::head::{Head, common_node_in, head_in, short_str_in, unsigned_in};
+use crate::head::{Head, head_in, short_parts_in, short_str_in, unsigned_in};
 use std::marker::Model;
 
 /// A place in some bytes. Contracts see the place and the bytes from there on.
@@ -192,67 +193,79 @@ impl<'a> Cursor<'a> {
 
     // The cursor behind the next value, found by counting the values that are still owed. Each of
     // them takes a byte, so a count that stands still at its type's end is as good as the true one.
+    // No call that isn't inlined has the address of `ahead`, so that its place stays in a register.
     fn behind_value(&self) -> Result<Cursor<'a>, FormatFault>
         ensures { result ≡ values_from 1 self.now }
     {
         let mut ahead = self.copy();
         let mut owed: u64 = 1;
         while owed > 0 {
-            if ahead.pass_short_str() {
+            if ahead.pass_common_leaf() {
                 owed -= 1;
                 continue;
             }
-            match ahead.next_node() {
+            let mut behind = ahead.copy();
+            match behind.next_node() {
                 Ok(parts) => owed = (owed - 1).saturating_add(parts),
                 Err(fault) => return Err(fault),
             }
+            ahead = behind;
         }
         Ok(ahead)
     }
 
-    // Passes over a str whose head has one or two bytes, where one stands whole, and says whether it did.
+    // Passes over a value without values in it, where its head is of a form that most have: that of
+    // a short text, of a digest, or of a number without a sign. Says whether it did. Each form is
+    // passed over by code of its own.
     #[inline(always)]
-    fn pass_short_str(&mut self) -> bool
+    #[tactic(auto, unfolding(crate::specs::Format::form, crate::specs::Format::head_at))]
+    fn pass_common_leaf(&mut self) -> bool
         ensures { PassesLeaf result self.old self.new (node_from self.old) }
     {
-        match self.short_str() {
-            Some((_, len)) => {
-                self.pass(len);
-                true
-            }
-            None => false,
+        let Some((first, behind)) = self.rest().split_first() else {
+            return false;
+        };
+        match *first {
+            0xa0..=0xbf => self.pass_leaf(1 + usize::from(*first - 0xa0)),
+            0xc4 | 0xd9 => match behind {
+                [len, ..] => self.pass_leaf(2 + usize::from(*len)),
+                [] => false,
+            },
+            0xce => self.pass_leaf(5),
+            0xcf => self.pass_leaf(9),
+            0x00..=0x7f => self.pass_leaf(1),
+            _ => false,
         }
+    }
+
+    // Passes over a value without values in it that claims so many bytes, where they are there, and
+    // says whether it did.
+    #[inline(always)]
+    #[tactic(auto, using(crate::proofs::StrLemmas::sized_node))]
+    fn pass_leaf(&mut self, len: usize) -> bool
+        requires { len ≤ length self.old.left → node_size (head_at self.old.left) ≡ Some (len, 0) }
+        ensures { PassesLeaf result self.old self.new (node_from self.old) }
+    {
+        if self.rest().len() < len {
+            return false;
+        }
+        self.pass(len);
+        true
     }
 
     // Passes over the head and the payload of the next value, and says how many values are in it.
     #[inline(always)]
+    #[tactic(auto, using(crate::proofs::StrLemmas::sized_node))]
     fn next_node(&mut self) -> Result<u64, FormatFault>
         ensures { NodePasses result self.new (node_from self.old) }
     {
-        match self.common_node() {
-            Some((len, parts)) => {
-                self.pass(len);
+        match short_parts_in(self.rest()) {
+            Some(parts) => {
+                self.pass(1);
                 Ok(parts)
             }
             None => self.next_other_node(),
         }
-    }
-
-    // How many bytes the head and the payload of the next value take and how many values are in it,
-    // where its head is of a common form and its payload is there.
-    #[inline(always)]
-    #[tactic(auto, using(crate::proofs::StrLemmas::sized_node))]
-    fn common_node(&self) -> Option<(usize, u64)>
-        ensures exact { IfSome result
-            (λ n. NodePasses (Ok n.1) (behind n.0 self.now) (node_from self.now)) }
-        ensures within { IfSome result (λ n. n.0 ≤ length self.now.left) }
-    {
-        let rest = self.rest();
-        let (len, parts) = common_node_in(rest)?;
-        if rest.len() < len {
-            return None;
-        }
-        Some((len, parts))
     }
 
     // The same of any value.

@@ -118,22 +118,16 @@ pub(crate) fn head_in(bytes: &[u8]) -> Result<(Head, usize), FaultKind>
     }
 }
 
-// How many bytes the head at the front and its payload claim and how many values are in it, where the
-// head is of a form that most records have: a small number, a short map or list, a digest, or a number
-// without a sign. The forms are few, so that they are part of each loop over heads, and no value of
-// `Head` has to be made of them.
+// How many values are in the map or the array that stands at the front, where its head is one byte.
 #[inline(always)]
 #[tactic(auto, unfolding(crate::specs::Format::form, crate::specs::Format::head_at))]
-pub(crate) fn common_node_in(bytes: &[u8]) -> Option<(usize, u64)>
-    ensures { IfSome result (λ node. node_size (head_at bytes.now) ≡ Some node) }
+pub(crate) fn short_parts_in(bytes: &[u8]) -> Option<u64>
+    ensures exact { IfSome result (λ parts. node_size (head_at bytes.now) ≡ Some (1, parts)) }
+    ensures within { IfSome result (λ parts. 1 ≤ length bytes.now) }
 {
     match bytes {
-        [0x00..=0x7f, ..] => Some((1, 0)),
-        [first @ 0x80..=0x8f, ..] => Some((1, 2 * u64::from(*first - 0x80))),
-        [first @ 0x90..=0x9f, ..] => Some((1, u64::from(*first - 0x90))),
-        [0xc4, len, ..] => Some((2 + usize::from(*len), 0)),
-        [0xce, _, _, _, _, ..] => Some((5, 0)),
-        [0xcf, _, _, _, _, _, _, _, _, ..] => Some((9, 0)),
+        [first @ 0x80..=0x8f, ..] => Some(2 * u64::from(*first - 0x80)),
+        [first @ 0x90..=0x9f, ..] => Some(u64::from(*first - 0x90)),
         _ => None,
     }
 }
