@@ -20,4 +20,6 @@ pub mod ReadyLemmas
 pub mod AskLemmas
 pub mod Examples
 pub mod StartLemmas
+pub mod RootLemmas
+pub mod NeedLemmas
 pub mod SlotLemmas

@@ -172,6 +172,12 @@ module _ (f : ℕ → Name) (n : Name) (order : List ℕ) (listed : List Name) (
       | Err at ↦ λ e. sym (search_new at e)
     ] refl
 
+-- where it was found, it has its place
+pub search_at : (f : ℕ → Name) (n : Name) (order : List ℕ) (r : Result ℕ ℕ) → IsSearchInRange r (length order) → IsBinarySearchResult (compared f n) order r
+    → IfOk r (λ at. (at < length order) × (f (slice_index_or order at 0) ≡ n))
+search_at f n order (Ok at) within found = (within, one_name (f (slice_index_or order at 0)) n (ap is_eq (found 0)))
+search_at f n order (Err at) within found = tt
+
 module _ (all listed : List Name) (order : List ℕ) (o : IsOrder all listed order) (k : ℕ) (n : Name) (is : name_at all k ≡ n) where
   -- a number more, put into its place
   pub order_put : (at : ℕ) → k < length all → with_name (name_at all k) (map (name_at all) order) ≡ insert (map (name_at all) order) at (name_at all k) → IsOrder all (listed ++ n ∷ []) (insert order at k)

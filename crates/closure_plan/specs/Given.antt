@@ -7,6 +7,7 @@ use Rattle.conda_name.specs.Dependency.{dependency_name}
 use Rattle.std.specs.Str.{bytes_eq}
 use Rattle.digest_gate.specs.declared.digest.Digest.{Digest}
 use Rattle.match_spec.specs.Matching.{matches}
+use Rattle.match_spec.specs.Parts.{Meaning}
 use Rattle.shard_file.specs.Rows.{Row}
 use Rattle.shard_file.specs.Twin.{before_ending, newer_ending, older_ending}
 use Rattle.shard_index.specs.Index as indexes
@@ -108,10 +109,13 @@ stays format.PreferConda rows row = not (is_left_out rows row)
 abbrev pub kept_by : Format → List Row → List Row
 kept_by f rows = filter (stays f rows) rows
 
+-- whether a spec matches a row in a slot
+abbrev pub hits : Asking → ℕ → Row → Meaning → Bool
+hits r s row spec = matches spec row.fields (slot_at r s).channel.name (slot_at r s).subdir row.file
+
 -- whether some spec of a request matches a row in a slot
 abbrev pub is_matched : Asking → ℕ → Row → Bool
-is_matched r s row =
-    list_any (λ spec. matches spec row.fields (slot_at r s).channel.name (slot_at r s).subdir row.file) r.specs
+is_matched r s row = list_any (hits r s row) r.specs
 
 -- whether a request asks for a row of a name: of a root name where some spec matches it, of another name always
 abbrev pub is_asked : Asking → ℕ → Name → Row → Bool

@@ -1,13 +1,13 @@
 -- Laws of what a request reaches, and of its closure.
 use Rattle.std.specs.Prelude.{◌≡◌, ◌⊎◌, None, ℕ, suc, ◌<◌, Bool, true, false, List, [], ◌++◌, length, Some, is_some}
-use Rattle.std.specs.List.{list_all}
+use Rattle.std.specs.List.{IsDistinct, list_all}
 use Rattle.shard_index.specs.Index as indexes
 use Rattle.closure_request.specs.Request.{Asking, root_names}
 use Rattle.closure_request.specs.Slots.{slots}
 use Rattle.closure_plan.specs.Names.{Name, has_name}
 use Rattle.closure_plan.specs.Rounds.{rounds}
 use Rattle.closure_plan.specs.Given.{Pins, LeafRows, pin_at, rows_at, wanted, given}
-use Rattle.closure_plan.specs.Needs.{Wish, is_given, is_askable, needs, next_wish}
+use Rattle.closure_plan.specs.Needs.{Wish, is_given, is_askable, needs, next_wish, same_wish}
 use Rattle.closure_plan.specs.Closure.{Found, leads_to, reach, found, closure}
 
 -- ---- rounds
@@ -89,3 +89,9 @@ EndIsDone = (r : Asking) (pins : Pins) (leaves : List LeafRows)
 abbrev pub NextIsAskable : Type 0
 NextIsAskable = (r : Asking) (pins : Pins) (leaves : List LeafRows) (marked : List Wish) (need : Wish)
     → next_wish r pins leaves marked ≡ Some need → is_askable r pins leaves marked need ≡ true
+
+-- ---- the needs
+
+-- no need stands twice
+abbrev pub NeedsAreOnce : Type 0
+NeedsAreOnce = (r : Asking) (pins : Pins) (leaves : List LeafRows) → IsDistinct same_wish (needs r pins leaves)

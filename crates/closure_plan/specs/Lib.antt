@@ -16,6 +16,7 @@ pub mod Rows
 pub mod Cells
 pub mod Owing
 pub mod Ready
+pub mod Roots
 pub use Rattle.closure_request.specs.Request
 pub use Rattle.closure_request.specs.Slots
 pub use Rattle.conda_name.specs.Name as PackageName

@@ -1,9 +1,9 @@
 -- What a request needs, in the order in which it is asked for.
-use Rattle.std.specs.Prelude.{ℕ, Bool, not, false, ◌&&◌, List, [], ◌∷◌, ◌++◌, map, Option, Some, None, is_some, if◌then◌else◌}
+use Rattle.std.specs.Prelude.{ℕ, ◌==◌, Bool, not, false, ◌&&◌, List, [], ◌∷◌, ◌++◌, map, Option, Some, None, is_some, if◌then◌else◌}
 use Rattle.std.specs.List.{flat_map, find, list_any}
 use Rattle.std.specs.Str.{bytes_eq}
 use Rattle.digest_gate.specs.declared.digest.Digest.{Digest}
-use Rattle.closure_plan.specs.Names.{Name}
+use Rattle.closure_plan.specs.Names.{Name, is_name}
 use Rattle.closure_request.specs.Request.{Asking}
 use Rattle.closure_request.specs.Slots.{slot_at, numbers}
 use Rattle.closure_plan.specs.Given.{Pins, LeafRows, pin_at, is_at, wanted}
@@ -21,6 +21,17 @@ shards_of r pins n = flat_map (λ s. if is_some (wanted r pins s n) then the_sha
 -- the needs in the order in which they are asked for: indexes by slot, then shards by name, then by slot
 abbrev pub needs : Asking → Pins → List LeafRows → List Wish
 needs r pins leaves = map the_index (numbers r) ++ flat_map (shards_of r pins) (reach r pins leaves)
+
+-- whether two needs are one
+abbrev pub same_wish : Wish → Wish → Bool
+same_wish (the_index s) (the_index t) = s == t
+same_wish (the_index s) (the_shard t m) = false
+same_wish (the_shard s n) (the_index t) = false
+same_wish (the_shard s n) (the_shard t m) = (s == t) && is_name n m
+
+-- whether a need stands in a list
+abbrev pub has_wish : List Wish → Wish → Bool
+has_wish needs need = list_any (same_wish need) needs
 
 -- whether a need is given
 abbrev pub is_given : Pins → List LeafRows → Wish → Bool

@@ -1,5 +1,5 @@
 -- What a plan has, and what is always so of it.
-use Rattle.std.specs.Prelude.{◌≡◌, ℕ, ◌+◌, ◌<◌, ◌==◌, ◌&&◌, not, Bool, true, false, List, [], map, length, Option, Some, None, is_some}
+use Rattle.std.specs.Prelude.{◌≡◌, ⊤, ℕ, ◌+◌, ◌<◌, ◌==◌, ◌&&◌, not, Bool, true, false, List, [], map, length, Option, Some, None, is_some}
 use Rattle.std.specs.List.{All, IsDistinct, slice_get, slice_index_or, list_any, list_all, count_by, filter}
 use Rattle.std.specs.Option.{option_map, option_and_then}
 use Rattle.digest_gate.specs.Digest.{digest_of}
@@ -75,6 +75,11 @@ same_need (need.Index s) (need.Index t) = s == t
 same_need (need.Index s) (need.Shard t m) = false
 same_need (need.Shard s k) (need.Index t) = false
 same_need (need.Shard s k) (need.Shard t m) = (s == t) && (k == m)
+
+-- a need's number is that of a slot, or of a name
+abbrev pub HasNumber : List Name → Need → Type 0
+HasNumber names (need.Index s) = ⊤
+HasNumber names (need.Shard s k) = k < length names
 
 -- whether a need stands in a list
 abbrev pub has_need : List Need → Need → Bool

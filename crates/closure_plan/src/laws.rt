@@ -1,6 +1,6 @@
 //! Laws of the closure, each the contract of a function that does nothing.
 
-ghost use Rattle.closure_plan.specs.Laws.{ClosureIsGiven, ClosureIsThatOfWorld, EndIsDone, NextIsAskable, GivenIsInClosure, GivenStays, NothingIsAdded, OrderChangesNothing, ReachIsLeast, ReachStays, RoundsGrow, WantedStays};
+ghost use Rattle.closure_plan.specs.Laws.{ClosureIsGiven, ClosureIsThatOfWorld, EndIsDone, NextIsAskable, GivenIsInClosure, GivenStays, NeedsAreOnce, NothingIsAdded, OrderChangesNothing, ReachIsLeast, ReachStays, RoundsGrow, WantedStays};
 
 /// Rounds keep what was reached, and end: what is reached has the root names and all that it leads
 /// to, nothing is added after that, and no smaller list of names is so.
@@ -29,6 +29,11 @@ pub fn more_only_adds()
 pub fn order_changes_nothing()
     ensures order { OrderChangesNothing }
     ensures world { ClosureIsThatOfWorld }
+{}
+
+/// No need stands twice among the needs.
+pub fn needs_are_once()
+    ensures { NeedsAreOnce }
 {}
 
 /// A plan without marks whose `next` is None is done, and what `next` gives is not given, and has a

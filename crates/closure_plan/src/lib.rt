@@ -13,12 +13,14 @@ mod laws;
 mod listing;
 mod need;
 mod plan;
+mod roots;
 mod sources;
 
 pub use answer::{Answer, AnswerRow, Part};
 pub use holders::{LeafHolder, PinHolder};
 pub use laws::{
-    closure_is_what_is_given, more_only_adds, order_changes_nothing, rounds_end, the_end_is_done,
+    closure_is_what_is_given, more_only_adds, needs_are_once, order_changes_nothing, rounds_end,
+    the_end_is_done,
 };
 pub use need::Need;
 pub use plan::Plan;

@@ -1,7 +1,8 @@
 //! Names in the order in which they came, each of which is found by a binary search.
 
-ghost use Rattle.std.specs.Prelude.{◌≡◌, ◌++◌, ◌∷◌, [], OnOk};
+ghost use Rattle.std.specs.Prelude.{◌≡◌, ◌<◌, ◌++◌, ◌∷◌, [], false, length, OnOk, OnErr, IfSome, IfNone};
 ghost use Rattle.closure_plan.specs.Names.{has_name};
+ghost use Rattle.closure_plan.specs.Plan.{name_at};
 
 use crate::plan::order::{put, search};
 use conda_name::Name;
@@ -45,15 +46,28 @@ impl Listing {
         search(&self.names, &self.order, name).is_ok()
     }
 
+    // The number of a name, or None where it isn't there.
+    pub(crate) fn number(&self, name: &str) -> Option<usize>
+        ensures some { IfSome result (λ k. (k < length self.now) × (name_at self.now k ≡ name.now)) }
+        ensures none { IfNone result (has_name self.now name.now ≡ false) }
+    {
+        match search(&self.names, &self.order, name) {
+            Ok(at) => Some(self.order[at]),
+            Err(_) => None,
+        }
+    }
+
     // Adds a name behind the others.
     pub(crate) fn push(&mut self, name: Name) -> Result<(), AllocError>
-        ensures { OnOk result (self.new ≡ self.old ++ name ∷ []) }
+        ensures ok { OnOk result (self.new ≡ self.old ++ name ∷ []) }
+        ensures err { OnErr result (self.new ≡ self.old) }
     {
         self.names.reserve(1)?;
         put(&self.names, slice::from_ref(&name), 0, &mut self.order)?;
         self.names.push_reserved(name);
         Ok(())
     }
+
     // The names.
     pub(crate) fn into_names(self) -> Vec<Name>
         ensures { result.items ≡ self }

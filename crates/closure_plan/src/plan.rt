@@ -9,12 +9,14 @@ pub(crate) mod names;
 pub(crate) mod order;
 mod start;
 
-ghost use Rattle.std.specs.Prelude.{◌≡◌, length, slice_get, IfOk, IfSome, Some, true};
+ghost use Rattle.std.specs.Prelude.{◌≡◌, ◌↔◌, length, slice_get, IfOk, IfSome, Some, true};
 ghost use Rattle.std.specs.Option.{option_map};
 ghost use Rattle.closure_request.specs.Slots.{Slot, slots};
 ghost use Rattle.closure_plan.specs.Given.{pin_at};
 ghost use Rattle.closure_plan.specs.Closure.{closure};
-ghost use Rattle.closure_plan.specs.Plan.{IsPlan, digest_of_need, its_done, its_leaves, its_pins, name_at, pins_of};
+ghost use Rattle.closure_plan.specs.declared.need.Need.{Need};
+ghost use Rattle.closure_plan.specs.Needs.{has_wish};
+ghost use Rattle.closure_plan.specs.Plan.{HasNumber, IsNeed, IsPlan, digest_of_need, given_count, its_done, its_leaves, its_needs, its_pins, name_at, pins_of, wish_of};
 
 use crate::answer::{Answer, Part};
 use crate::holders::{LeafHolder, PinHolder};
@@ -100,6 +102,21 @@ impl<P: PinHolder, H: LeafHolder> Plan<P, H> {
         ensures { IsPlan P.contents H.contents self.now }
     {
         let _marks = &self.marks;
+    }
+
+    /// Says which numbers are those of needs, and how many needs there are once each is given. It does
+    /// nothing.
+    pub fn tell_needs(&self)
+        // A number of a slot, or of a name in a slot, is that of a need where its need is one.
+        ensures are { (m : Need) → HasNumber self.now.known.names m
+            → IsNeed self.now.known.request (its_pins P.contents H.contents self.now.known)
+            self.now.known.names m ↔ (has_wish (its_needs P.contents H.contents self.now.known)
+            (wish_of self.now.known.names m) ≡ true) }
+        // At the end there are as many needs as pins and shards.
+        ensures counted { its_done P.contents H.contents self.now.known ≡ true
+            → length (its_needs P.contents H.contents self.now.known) ≡ given_count self.now.known }
+    {
+        self.tell();
     }
 
     /// The request.

@@ -11,6 +11,7 @@ ghost use Rattle.closure_plan.specs.Given.{pin_at, is_without, listed_digest, le
 ghost use Rattle.closure_plan.specs.Plan.{pins_of};
 
 use crate::holders::PinHolder;
+use crate::roots::Roots;
 use closure_request::{Channel, Priority, Request};
 use digest_gate::Digest;
 use mp_codec::Text;
@@ -23,10 +24,11 @@ pub(crate) struct Place {
     pub(crate) subdir: usize,
 }
 
-// A request, its slots, and what holds the index of each slot that is pinned.
+// A request, the names of its specs, its slots, and what holds the index of each slot that is pinned.
 #[derive(Drop)]
 pub(crate) struct Sources<P: PinHolder> {
     pub(crate) request: Request,
+    pub(crate) roots: Roots,
     pub(crate) places: Vec<Place>,
     pub(crate) pins: Vec<Option<P>>,
 }
@@ -42,10 +44,12 @@ impl<P: PinHolder> Model for Sources<P> {
     ghost view = { λ s. record { request = s.request; pins = s.pins.items } };
 
     ghost use Rattle.closure_plan.specs.Sources.{IsWithin, slot_of};
+    ghost use Rattle.closure_plan.specs.Roots.{AreRoots};
 
     ghost invariant = { λ s. (map (slot_of s.request) s.places.items ≡ slots s.request)
         × (length s.pins.items ≡ length (slots s.request))
-        × All (IsWithin (length s.request.channels) (length s.request.subdirs)) s.places.items };
+        × All (IsWithin (length s.request.channels) (length s.request.subdirs)) s.places.items
+        × AreRoots s.request.specs (length s.request.specs) s.roots };
 }
 
 impl<P: PinHolder> Sources<P> {

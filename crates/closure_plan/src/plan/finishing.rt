@@ -6,6 +6,7 @@ ghost use Rattle.std.specs.Option.{option_map};
 ghost use Rattle.closure_request.specs.Slots.{slots};
 ghost use Rattle.closure_plan.specs.Given.{given, gives};
 ghost use Rattle.closure_plan.specs.Closure.{closure, closure_in, found};
+ghost use Rattle.closure_plan.specs.Roots.{asked_of, specs_at};
 ghost use Rattle.closure_plan.specs.Rows.{Adds, given_in, leaf_or_none, place_if};
 ghost use Rattle.closure_plan.specs.Plan.{its_leaves, its_pins, name_at};
 
@@ -95,8 +96,10 @@ impl<P: PinHolder, H: LeafHolder> Plan<P, H> {
             (given_in self.now.known.request (leaf_or_none (its_leaves P.contents H.contents
             self.now.known) i))) }
     {
+        let asked = self.sources.asked(name);
         for row in 0..shard.len() {
-            self.add_place(RowPlace { slot, leaf: i, row }, name, shard, rows)?;
+            let at = RowPlace { slot, leaf: i, row };
+            self.add_place(at, name, asked, shard, rows)?;
         }
         Ok(())
     }
@@ -106,15 +109,18 @@ impl<P: PinHolder, H: LeafHolder> Plan<P, H> {
         &self,
         at: RowPlace,
         name: &Name,
+        asked: Option<&[usize]>,
         shard: &Shard,
         rows: &mut Vec<RowPlace>,
     ) -> Result<(), AllocError>
+        requires { option_map (λ numbers. specs_at self.now.known.request.specs numbers.now)
+            asked ≡ asked_of self.now.known.request.specs name.now }
         ensures { OnOk result (rows.new.items ≡ rows.old.items ++ place_if (gives
             self.now.known.request at.slot name.now shard.now.rows)
             (slice_get shard.now.rows at.row) at) }
     {
         match shard.row(at.row) {
-            Some(row) if self.sources.gives(at.slot, name, shard, at.row, row) => {
+            Some(row) if self.sources.gives(at.slot, name, asked, shard, at.row, row) => {
                 rows.push(at)?;
                 Ok(())
             }

@@ -2,11 +2,13 @@
 
 ghost use Rattle.std.specs.Prelude.{◌≡◌, ◌<◌, ◌||◌, ◌∷◌, [], Ok, length, slice_get, IfOk, OnOk};
 ghost use Rattle.std.specs.List.{filter, flat_map};
+ghost use Rattle.std.specs.Option.{option_map};
 ghost use Rattle.conda_name.specs.Name.{lower_case, name_of};
 ghost use Rattle.conda_record.specs.View.{seen};
-ghost use Rattle.closure_plan.specs.Names.{has_name, is_name};
+ghost use Rattle.closure_plan.specs.Names.{has_name};
 ghost use Rattle.closure_plan.specs.Given.{deps_if, deps_of, given_of, gives, names_if, names_of_text};
 ghost use Rattle.closure_plan.specs.Fresh.{Grows};
+ghost use Rattle.closure_plan.specs.Roots.{asked_of, specs_at};
 ghost use Rattle.closure_plan.specs.Giving.{reached_by};
 
 use crate::holders::{LeafHolder, PinHolder};
@@ -49,9 +51,10 @@ impl<P: PinHolder, H: LeafHolder> Plan<P, H> {
             (flat_map deps_of (filter (gives self.now.known.request slot name.now
             shard.now.rows) shard.now.rows))) }
     {
+        let asked = self.sources.asked(name);
         let mut fresh = Listing::new(*self.names.allocator());
         for i in 0..shard.len() {
-            self.add_row(slot, name, shard, i, &mut fresh)?;
+            self.add_row(slot, name, asked, shard, i, &mut fresh)?;
         }
         Ok(fresh)
     }
@@ -61,18 +64,21 @@ impl<P: PinHolder, H: LeafHolder> Plan<P, H> {
         &self,
         slot: usize,
         name: &Name,
+        asked: Option<&[usize]>,
         shard: &Shard,
         i: usize,
         fresh: &mut Listing,
     ) -> Result<(), AllocError>
-        requires { i < length shard.now.rows }
+        requires asked { option_map (λ numbers. specs_at self.now.known.request.specs numbers.now)
+            asked ≡ asked_of self.now.known.request.specs name.now }
+        requires row { i < length shard.now.rows }
         ensures { OnOk result (Grows self.now.known.names fresh.old fresh.new
             (deps_if (gives self.now.known.request slot name.now shard.now.rows) (slice_get
             shard.now.rows i))) }
     {
         match shard.row(i) {
             Some(row) => {
-                if self.sources.gives(slot, name, shard, i, row) {
+                if self.sources.gives(slot, name, asked, shard, i, row) {
                     self.add_deps(row.view, fresh)?;
                 }
                 Ok(())
@@ -143,13 +149,6 @@ impl<P: PinHolder, H: LeafHolder> Plan<P, H> {
     {
         search(&self.names, &self.order, name.as_str()).is_ok() || others.has(name.as_str())
     }
-}
-
-// Whether two names are one.
-pub(crate) fn is_same(one: &str, other: &str) -> bool
-    ensures { result ≡ is_name one.now other.now }
-{
-    one == other
 }
 
 // The name of a text that is one.

@@ -1,7 +1,7 @@
 //! Numbers of names, ascending by name.
 
 ghost use Rattle.std.specs.Prelude.{◌≡◌, ◌<◌, ◌≤◌, ◌++◌, ◌∷◌, [], List, ℕ, map, length, is_ok, IfOk, OnOk, OnErr, IfSome, IfNone};
-ghost use Rattle.std.specs.List.{insert};
+ghost use Rattle.std.specs.List.{insert, slice_index_or};
 ghost use Rattle.closure_plan.specs.Names.{has_name, with_name};
 ghost use Rattle.closure_plan.specs.Fresh.{IsOrder};
 ghost use Rattle.closure_plan.specs.Plan.{name_at};
@@ -109,8 +109,10 @@ fn bytes_at(names: &[Name], k: usize) -> &[u8]
 
 // Where a name stands among numbers of names, or where it goes.
 pub(crate) fn search(names: &[Name], order: &[usize], name: &str) -> Result<usize, usize>
-    ensures { (listed : List (List ℕ)) → IsOrder names.now listed order.now
+    ensures is { (listed : List (List ℕ)) → IsOrder names.now listed order.now
         → is_ok result ≡ has_name listed name.now }
+    ensures found { IfOk result (λ at. (at < length order.now)
+        × (name_at names.now (slice_index_or order.now at 0) ≡ name.now)) }
 {
     let name = name.as_bytes();
     order.binary_search_by(|k| bytes_at(names, *k).cmp(name))

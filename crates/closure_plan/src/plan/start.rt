@@ -11,6 +11,7 @@ use crate::listing::Listing;
 use crate::plan::Plan;
 use crate::plan::giving::room_for;
 use crate::plan::order::numbers_with;
+use crate::roots::Roots;
 use crate::sources::{Place, Sources};
 use closure_request::Request;
 use conda_name::Name;
@@ -29,9 +30,11 @@ impl<P: PinHolder, H: LeafHolder> Plan<P, H> {
         let pins = no_pins(alloc, places.len())?;
         let room = room_for(places.len(), names.len(), 0)?;
         let marks = Vec::with_capacity(alloc, room)?;
+        let asked = Roots::of(alloc, &request.specs)?;
         Ok(Plan {
             sources: Sources {
                 request,
+                roots: asked,
                 places,
                 pins,
             },

@@ -1,51 +1,65 @@
 //! Which rows of a shard a request is given.
 
 ghost use Rattle.std.specs.Prelude.{◌≡◌, slice_get, Some, true};
+ghost use Rattle.std.specs.List.{list_any};
+ghost use Rattle.std.specs.Option.{option_map, option_to_list};
 ghost use Rattle.conda_record.specs.View.{seen};
 ghost use Rattle.shard_file.specs.Seen.{row_seen};
-ghost use Rattle.closure_request.specs.Request.{root_names};
-ghost use Rattle.closure_plan.specs.Names.{has_name, is_name};
-ghost use Rattle.closure_plan.specs.Given.{gives, is_asked, is_left_out, is_matched, name_in, named, stays};
+ghost use Rattle.closure_plan.specs.Names.{is_name};
+ghost use Rattle.closure_plan.specs.Given.{gives, hits, is_asked, is_left_out, name_in, named, stays};
+ghost use Rattle.closure_plan.specs.Roots.{asked_of, specs_at};
 
 use crate::holders::PinHolder;
-use crate::plan::names::is_same;
 use crate::sources::Sources;
 use closure_request::Format;
 use conda_name::{Name, same_name};
 use shard_file::{Shard, ShardRow};
 
 impl<P: PinHolder> Sources<P> {
-    // Whether a name is the root of a spec.
-    fn is_root(&self, name: &str) -> bool
-        ensures { result ≡ has_name (root_names self.now.request) name.now }
+    // The numbers of the specs of a name, or None where no spec has it.
+    pub(crate) fn asked(&self, name: &Name) -> Option<&[usize]>
+        ensures { option_map (λ numbers. specs_at self.now.request.specs numbers.now) result
+            ≡ asked_of self.now.request.specs name.now }
     {
-        for spec in &self.request.specs {
-            if is_same(name, spec.name().as_str()) {
+        self.roots.asked(name.as_str())
+    }
+
+    // Whether the spec of a number matches a row in a slot.
+    fn matches(&self, k: usize, slot: usize, row: ShardRow<'_>) -> bool
+        ensures { result ≡ list_any (hits self.now.request slot (row_seen row.entry))
+            (option_to_list (slice_get self.now.request.specs k)) }
+    {
+        match self.request.specs.get(k) {
+            Some(spec) => spec.matches(row.view, self.channel(slot), self.subdir(slot), row.file),
+            None => false,
+        }
+    }
+
+    // Whether the spec of one of some numbers matches a row in a slot.
+    fn is_matched(&self, numbers: &[usize], slot: usize, row: ShardRow<'_>) -> bool
+        ensures { result ≡ list_any (hits self.now.request slot (row_seen row.entry))
+            (specs_at self.now.request.specs numbers.now) }
+    {
+        for k in numbers {
+            if self.matches(*k, slot, row) {
                 return true;
             }
         }
         false
     }
 
-    // Whether some spec matches a row in a slot.
-    fn is_matched(&self, slot: usize, row: ShardRow<'_>) -> bool
-        ensures { result ≡ is_matched self.now.request slot (row_seen row.entry) }
-    {
-        let channel = self.channel(slot);
-        let subdir = self.subdir(slot);
-        for spec in &self.request.specs {
-            if spec.matches(row.view, channel, subdir, row.file) {
-                return true;
-            }
-        }
-        false
-    }
-
-    // Whether the request asks for a row of a name.
-    fn is_asked(&self, slot: usize, name: &Name, row: ShardRow<'_>) -> bool
+    // Whether the request asks for a row of a name, of whose specs these are the numbers.
+    fn is_asked(&self, slot: usize, name: &Name, asked: Option<&[usize]>, row: ShardRow<'_>) -> bool
+        requires asked { option_map (λ numbers. specs_at self.now.request.specs numbers.now) asked
+            ≡ asked_of self.now.request.specs name.now }
+        requires name { is_name name.now (name_in (row_seen row)) ≡ true }
         ensures { result ≡ is_asked self.now.request slot name.now (row_seen row.entry) }
     {
-        !self.is_root(name.as_str()) || self.is_matched(slot, row)
+        let _name = name;
+        match asked {
+            Some(numbers) => self.is_matched(numbers, slot, row),
+            None => true,
+        }
     }
 
     // Whether the request's format leaves the row of a place, which has this name.
@@ -61,20 +75,26 @@ impl<P: PinHolder> Sources<P> {
         }
     }
 
-    // Whether the row of a place of a shard is given.
+    // Whether the row of a place of a shard is given, which is that of a name, of whose specs these are
+    // the numbers.
     pub(crate) fn gives(
         &self,
         slot: usize,
         name: &Name,
+        asked: Option<&[usize]>,
         shard: &Shard,
         i: usize,
         row: ShardRow<'_>,
     ) -> bool
-        requires { slice_get shard.now.rows i ≡ Some (row_seen row) }
+        requires asked { option_map (λ numbers. specs_at self.now.request.specs numbers.now) asked
+            ≡ asked_of self.now.request.specs name.now }
+        requires row { slice_get shard.now.rows i ≡ Some (row_seen row) }
         ensures { result ≡ gives self.now.request slot name.now shard.now.rows (row_seen
             row.entry) }
     {
-        has_name(row, name) && self.stays(shard, name, i, row) && self.is_asked(slot, name, row)
+        has_name(row, name)
+            && self.stays(shard, name, i, row)
+            && self.is_asked(slot, name, asked, row)
     }
 }
 

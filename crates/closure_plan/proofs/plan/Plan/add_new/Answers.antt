@@ -14,4 +14,4 @@ pub returns : goal.returns
 returns g c =
     let names = c.args.self.now.known.names in
     let new : (has_name names c.args.name || has_name c.args.fresh.now c.args.name) ≡ false = sym c.is_listed.ensures ∙ c.if-is_listed.false in
-    subst (λ new. Grows names c.args.fresh.now new (c.args.name ∷ [])) (sym c.in_ok-push.ensures) (grows_push names c.args.fresh.now c.args.name new)
+    subst (λ new. Grows names c.args.fresh.now new (c.args.name ∷ [])) (sym c.in_ok-push.ensures.ok) (grows_push names c.args.fresh.now c.args.name new)

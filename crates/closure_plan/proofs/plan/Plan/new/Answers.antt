@@ -6,9 +6,11 @@ use Rattle.std.proofs.lemmas.List.Elements.{All-from_recursion}
 use Rattle.std.proofs.lemmas.Map.Keys.{IsDistinct-from_apart}
 use Rattle.closure_plan.specs.declared.sources.Place.{Place}
 use Rattle.closure_plan.specs.Names.{is_name, has_name}
+use Rattle.match_spec.specs.Parts.{Meaning}
 use Rattle.closure_request.specs.Request.{Asking, root_names, root_names_of}
 use Rattle.closure_request.specs.Slots.{slots}
 use Rattle.closure_plan.specs.Fresh.{IsOrder}
+use Rattle.closure_plan.specs.Roots.{AreRoots}
 use Rattle.closure_plan.specs.Sources.{IsWithin, slot_of}
 use Rattle.closure_plan.specs.Start.{places_in, unpinned}
 use Rattle.closure_plan.proofs.SlotLemmas.{all_within, places_are, unpinned_length}
@@ -32,8 +34,12 @@ invariant_of-result g c =
     let count : length places ≡ length (slots r) = sym (length-map places (slot_of r)) ∙ ap length are in
     let pins_count : c.len-3.result ≡ length (slots r) = let a = c.len-3.ensures in let b = c.in_ok-places.places.ok.0 in omega (arith, a, b, count) in
     let within : All (IsWithin (length r.channels) (length r.subdirs)) places
-    = subst (All (IsWithin (length r.channels) (length r.subdirs))) (sym is) (All-from_recursion (IsWithin (length r.channels) (length r.subdirs)) (flat_map (places_in (length r.subdirs)) (range_with_len 0 (length r.channels))) (all_within (length r.subdirs) (length r.channels))) in
-    (are, ap length c.in_ok-pins.ensures ∙ unpinned_length _ c.len-3.result ∙ pins_count, within)
+    = subst (All (IsWithin (length r.channels) (length r.subdirs))) (sym is) (All-from_recursion (IsWithin (length r.channels) (length r.subdirs)) (flat_map (places_in (length r.subdirs)) (range_with_len 0 (length r.channels))) (all_within (length r.subdirs) (length r.channels))) in (
+      are,
+      ap length c.in_ok-pins.ensures ∙ unpinned_length _ c.len-3.result ∙ pins_count,
+      within,
+      subst (λ (specs : List Meaning). AreRoots specs (length specs) c.in_ok-asked.asked) (c.deref-4.ensures.value ∙ ap (λ (a : Asking). a.specs) c.request.view_is) c.in_ok-asked.ensures,
+    )
 
 pub invariant_of-result-2 : goal.invariant_of-result-2
 invariant_of-result-2 g c =

@@ -1,11 +1,16 @@
 use Rattle.std.proofs.Common.{List, ℕ, rules}
 use Rattle.std.proofs.lemmas.Fn.{always_returns_same}
 use Rattle.closure_plan.specs.Plan.{name_at}
-use Rattle.closure_plan.proofs.OrderLemmas.{compared, search_has}
+use Rattle.closure_plan.proofs.OrderLemmas.{compared, search_at, search_has}
 use Rattle.closure_plan.proofs.plan.order.search.Goals as goal
 
 pub returns : goal.returns
-returns c listed o =
+returns c =
     let names : List (List ℕ) = c.args.names.now in
     let n : List ℕ = c.args.name.now in
-    search_has (name_at names) n c.args.order.now listed o.is c.binary_search_by.result c.binary_search_by.ensures.bound (c.binary_search_by.ensures.position (compared (name_at names) n) (always_returns_same _ _ _ (λ a r f' called. search rules)))
+    let order : List ℕ = c.args.order.now in
+    let place = c.binary_search_by.ensures.position (compared (name_at names) n) (always_returns_same _ _ _ (λ a r f' called. search rules)) in
+    record {
+      is = λ listed o. search_has (name_at names) n order listed o.is c.binary_search_by.result c.binary_search_by.ensures.bound place;
+      found = search_at (name_at names) n order c.binary_search_by.result c.binary_search_by.ensures.bound place;
+    }

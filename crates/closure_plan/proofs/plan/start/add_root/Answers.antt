@@ -12,4 +12,4 @@ returns-then-has c =
 pub returns : goal.returns
 returns c =
     let new : has_name c.args.names.now c.args.name.now ≡ false = ap (has_name c.args.names.now) (sym c.as_str.ensures.value) ∙ sym c.has.ensures ∙ c.if-has.false in
-    subst (λ new. Grows [] c.args.names.now new (c.args.name.now ∷ [])) (sym (c.in_ok-push.ensures ∙ ap (λ m. c.args.names.now ++ m ∷ []) c.in_ok-copy.ensures)) (grows_push [] c.args.names.now c.args.name.now new)
+    subst (λ new. Grows [] c.args.names.now new (c.args.name.now ∷ [])) (sym (c.in_ok-push.ensures.ok ∙ ap (λ m. c.args.names.now ++ m ∷ []) c.in_ok-copy.ensures)) (grows_push [] c.args.names.now c.args.name.now new)
