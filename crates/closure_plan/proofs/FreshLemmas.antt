@@ -1,5 +1,5 @@
 -- Names that are added, one after another.
-use Rattle.std.proofs.Common.{◌≡◌, ℕ, ◌+◌, ◌<◌, arith, Bool, true, false, cond, ◌||◌, ◌&&◌, List, [], ◌∷◌, ◌++◌, length, take, refl, sym, ap, subst, ◌∙◌, true≢false, append_assoc, filter, flat_map, Some}
+use Rattle.std.proofs.Common.{◌≡◌, ℕ, zero, suc, ◌+◌, ◌<◌, arith, Bool, true, false, cond, ◌||◌, ◌&&◌, List, [], ◌∷◌, ◌++◌, length, take, refl, sym, ap, subst, ◌∙◌, true≢false, append_assoc, filter, flat_map, Option, Some, None}
 use Rattle.std.specs.List.{IsDistinct, AllByRecursion, slice_get, slice_index_or}
 use Rattle.std.proofs.lemmas.List.{take_more}
 use Rattle.std.proofs.lemmas.List.Elements.{filter-append}
@@ -7,12 +7,14 @@ use Rattle.std.proofs.lemmas.List.Concat.{flat_map-append}
 use Rattle.std.proofs.lemmas.List.Folds.{list_any-append}
 use Rattle.std.proofs.lemmas.Option.{slice_get-get_or}
 use Rattle.std.proofs.lemmas.Map.Keys.{IsDistinct-head, IsDistinct-tail, IsDistinct-cons}
+use Rattle.std.specs.Option.{IfSome, option_map}
+use Rattle.mp_codec.proofs.KeyLemmas.{same_bytes}
 use Rattle.shard_file.specs.Rows.{Row}
 use Rattle.closure_plan.specs.Names.{Name, is_name, has_name}
 use Rattle.closure_request.specs.Request.{Asking}
-use Rattle.closure_plan.specs.Given.{names_of_text, names_if, deps_of, deps_if, name_in, named, stays, is_asked, given_of, gives}
-use Rattle.closure_plan.specs.Fresh.{Grows}
-use Rattle.closure_plan.proofs.NameLemmas.{In, itself, one_name, or_right}
+use Rattle.closure_plan.specs.Given.{names_of_text, names_if, deps_of, deps_if, passed, name_in, named, stays, is_asked, given_of, gives}
+use Rattle.closure_plan.specs.Fresh.{AreThere, Grows, is_that, stands_in}
+use Rattle.closure_plan.proofs.NameLemmas.{In, itself, one_name, or_left, or_right}
 
 or_none : (a : Bool) → a ≡ (a || false)
 or_none true = refl
@@ -75,6 +77,42 @@ module _ (names fresh : List Name) (n : Name) where
     distinct = λ d. subst (IsDistinct is_name) (append_assoc names fresh (n ∷ [])) (distinct_push (names ++ fresh) d (all_flipped (names ++ fresh) (list_any-append (is_name n) names fresh ∙ e)));
   }
 
+-- ---- names that are there already
+
+-- what is there stays there
+there_stays : (names a b xs some : List Name) → Grows names a b xs → AreThere names a some → AreThere names b some
+there_stays names a b xs some g f q e = g.members q ∙ or_left (has_name (names ++ a) q) (has_name xs q) (f q e)
+
+pub some_stay : {V : Type 0} (o : Option V) (f : V → List Name) (names a b xs : List Name) → Grows names a b xs → IfSome o (λ v. AreThere names a (f v)) → IfSome o (λ v. AreThere names b (f v))
+some_stay (Some v) f names a b xs g h = there_stays names a b xs (f v) g h
+some_stay None f names a b xs g h = tt
+
+-- what was added is there
+pub added_there : (names a b xs : List Name) → Grows names a b xs → AreThere names b xs
+added_there names a b xs g q e = g.members q ∙ or_right (has_name (names ++ a) q) (has_name xs q) e
+
+-- the names of a text are among those of texts of which it is one
+there_in : (texts : List (List ℕ)) (i : ℕ) (text : List ℕ) → is_that text (slice_get texts i) ≡ true → (q : Name) → has_name (names_of_text text) q ≡ true → has_name (flat_map names_of_text texts) q ≡ true
+there_in [] i text e q h = absurd (true≢false (sym e))
+there_in (t ∷ ts) zero text e q h =
+    list_any-append (is_name q) (names_of_text t) (flat_map names_of_text ts)
+    ∙ or_left (has_name (names_of_text t) q) (has_name (flat_map names_of_text ts) q) (ap (λ x. has_name (names_of_text x) q) (same_bytes t text e) ∙ h)
+there_in (t ∷ ts) (suc i) text e q h =
+    list_any-append (is_name q) (names_of_text t) (flat_map names_of_text ts)
+    ∙ or_right (has_name (names_of_text t) q) (has_name (flat_map names_of_text ts) q) (there_in ts i text e q h)
+
+-- a text whose names are there adds none
+pub known_text : {V : Type 0} (o : Option V) (f : V → List (List ℕ)) (names fresh : List Name) (i : ℕ) (text : List ℕ)
+    → IfSome o (λ v. AreThere names fresh (flat_map names_of_text (f v))) → stands_in i text (option_map f o) ≡ true → Grows names fresh fresh (names_of_text text)
+known_text None f names fresh i text h e = absurd (true≢false (sym e))
+known_text (Some v) f names fresh i text h e = record {
+  members = λ q. elim (has_name (names_of_text text) q) as (λ b. has_name (names_of_text text) q ≡ b → has_name (names ++ fresh) q ≡ (has_name (names ++ fresh) q || b)) [
+    | true ↦ λ t. let there : has_name (names ++ fresh) q ≡ true = h q (there_in (f v) i text e q t) in there ∙ sym (or_right (has_name (names ++ fresh) q) true refl)
+    | false ↦ λ t. or_none (has_name (names ++ fresh) q)
+  ] refl;
+  distinct = λ d. d;
+}
+
 -- ---- loops
 
 -- a text more
@@ -89,19 +127,19 @@ texts_more texts i d l =
     append_none (x ∷ xs) = ap (λ ys. x ∷ ys) (append_none xs)
 
 -- a row more
-pub rows_more : (p : Row → Bool) (rows : List Row) (i : ℕ) (d : Row) → i < length rows → flat_map deps_of (filter p (take (i + 1) rows)) ≡ flat_map deps_of (filter p (take i rows)) ++ deps_if p (slice_get rows i)
+pub rows_more : (p : Row → Bool) (rows : List Row) (i : ℕ) (d : Row) → i < length rows → flat_map deps_of (filter p (take (i + 1) rows)) ≡ flat_map deps_of (filter p (take i rows)) ++ deps_if (passed p (slice_get rows i))
 rows_more p rows i d l =
     ap (λ xs. flat_map deps_of (filter p xs)) (take_more rows i d l) ∙ ap (flat_map deps_of) (filter-append p (take i rows) (slice_index_or rows i d ∷ []))
     ∙ flat_map-append deps_of (filter p (take i rows)) (filter p (slice_index_or rows i d ∷ []))
     ∙ ap (λ xs. flat_map deps_of (filter p (take i rows)) ++ xs) (single (slice_index_or rows i d))
-    ∙ ap (λ o. flat_map deps_of (filter p (take i rows)) ++ deps_if p o) (sym (slice_get-get_or rows i d l))
+    ∙ ap (λ o. flat_map deps_of (filter p (take i rows)) ++ deps_if (passed p o)) (sym (slice_get-get_or rows i d l))
   where
     append_none : (xs : List Name) → xs ++ [] ≡ xs
     append_none [] = refl
     append_none (x ∷ xs) = ap (λ ys. x ∷ ys) (append_none xs)
 
-    single : (row : Row) → flat_map deps_of (filter p (row ∷ [])) ≡ deps_if p (Some row)
-    single row = elim (p row) as (λ b. flat_map deps_of (cond b (row ∷ []) []) ≡ cond b (deps_of row) []) [
+    single : (row : Row) → flat_map deps_of (filter p (row ∷ [])) ≡ deps_if (passed p (Some row))
+    single row = elim (p row) as (λ b. flat_map deps_of (cond b (row ∷ []) []) ≡ deps_if (cond b (Some row) None)) [
       | true ↦ append_none (deps_of row)
       | false ↦ refl
     ]
@@ -120,7 +158,7 @@ given_rows r s n rows =
     ap (filter (is_asked r s n)) (filter_filter (stays r.format (named n rows)) (λ row. is_name n (name_in row)) rows)
     ∙ filter_filter (is_asked r s n) (λ row. is_name n (name_in row) && stays r.format (named n rows) row) rows
 
-pub rows_on : (p : Row → Bool) (rows : List Row) (i : ℕ) → i < length rows → flat_map deps_of (filter p (take (i + 1) rows)) ≡ flat_map deps_of (filter p (take i rows)) ++ deps_if p (slice_get rows i)
+pub rows_on : (p : Row → Bool) (rows : List Row) (i : ℕ) → i < length rows → flat_map deps_of (filter p (take (i + 1) rows)) ≡ flat_map deps_of (filter p (take i rows)) ++ deps_if (passed p (slice_get rows i))
 rows_on p [] i l = absurd (omega arith)
 rows_on p (x ∷ xs) i l = rows_more p (x ∷ xs) i x l
 

@@ -145,10 +145,15 @@ deps_of row = flat_map names_of_text row.fields.depends
 abbrev pub gives : Asking → ℕ → Name → List Row → Row → Bool
 gives r s n rows row = (is_name n (name_in row) && stays r.format (named n rows) row) && is_asked r s n row
 
--- the names that a row depends on, where there is one and it passes
-abbrev pub deps_if : (Row → Bool) → Option Row → List Name
-deps_if p None = []
-deps_if p (Some row) = if p row then deps_of row else []
+-- the row of a place, where there is one and it passes
+abbrev pub passed : (Row → Bool) → Option Row → Option Row
+passed p None = None
+passed p (Some row) = if p row then Some row else None
+
+-- the names that a row depends on, where there is one
+abbrev pub deps_if : Option Row → List Name
+deps_if None = []
+deps_if (Some row) = deps_of row
 
 -- the name that a text is about, where there is a text
 abbrev pub names_if : Option (List ℕ) → List Name

@@ -1,14 +1,14 @@
 //! The names that a shard reaches.
 
-ghost use Rattle.std.specs.Prelude.{◌≡◌, ◌<◌, ◌||◌, ◌∷◌, [], Ok, length, slice_get, IfOk, OnOk};
+ghost use Rattle.std.specs.Prelude.{◌≡◌, ◌||◌, ◌∷◌, [], Ok, slice_get, IfOk, IfSome, OnOk};
 ghost use Rattle.std.specs.List.{filter, flat_map};
 ghost use Rattle.std.specs.Option.{option_map};
 ghost use Rattle.conda_name.specs.Name.{lower_case, name_of};
 ghost use Rattle.conda_record.specs.View.{seen};
+ghost use Rattle.shard_file.specs.Seen.{row_seen};
 ghost use Rattle.closure_plan.specs.Names.{has_name};
 ghost use Rattle.closure_plan.specs.Given.{deps_if, deps_of, given_of, gives, names_if, names_of_text};
-ghost use Rattle.closure_plan.specs.Fresh.{Grows};
-ghost use Rattle.closure_plan.specs.Roots.{asked_of, specs_at};
+ghost use Rattle.closure_plan.specs.Fresh.{AreThere, Grows, is_that, stands_in};
 ghost use Rattle.closure_plan.specs.Giving.{reached_by};
 
 use crate::holders::{LeafHolder, PinHolder};
@@ -17,7 +17,7 @@ use crate::plan::Plan;
 use crate::plan::order::search;
 use conda_name::{Name, dependency_name};
 use conda_record::RecordView;
-use shard_file::Shard;
+use shard_file::{Shard, ShardRow};
 use std::alloc::{AllocError, Global};
 
 impl<P: PinHolder, H: LeafHolder> Plan<P, H> {
@@ -53,60 +53,93 @@ impl<P: PinHolder, H: LeafHolder> Plan<P, H> {
     {
         let asked = self.sources.asked(name);
         let mut fresh = Listing::new(*self.names.allocator());
+        let mut before = None;
         for i in 0..shard.len() {
-            self.add_row(slot, name, asked, shard, i, &mut fresh)?;
+            let row = self.sources.given(slot, name, asked, shard, i);
+            before = self.add_row(row, before, &mut fresh)?;
         }
         Ok(fresh)
     }
 
-    // Adds the names that the row of a place depends on, where the row is given.
-    fn add_row(
+    // Adds the names that a row depends on, where there is one, and gives the last record that was added.
+    // Most rows depend on what the row before them does, so its texts are looked at first.
+    fn add_row<'a>(
         &self,
-        slot: usize,
-        name: &Name,
-        asked: Option<&[usize]>,
-        shard: &Shard,
-        i: usize,
+        row: Option<ShardRow<'a>>,
+        before: Option<RecordView<'a>>,
         fresh: &mut Listing,
-    ) -> Result<(), AllocError>
-        requires asked { option_map (λ numbers. specs_at self.now.known.request.specs numbers.now)
-            asked ≡ asked_of self.now.known.request.specs name.now }
-        requires row { i < length shard.now.rows }
-        ensures { OnOk result (Grows self.now.known.names fresh.old fresh.new
-            (deps_if (gives self.now.known.request slot name.now shard.now.rows) (slice_get
-            shard.now.rows i))) }
+    ) -> Result<Option<RecordView<'a>>, AllocError>
+        requires { IfSome before (λ v. AreThere self.now.known.names fresh.old
+            (flat_map names_of_text (seen v).depends)) }
+        ensures grows { OnOk result (Grows self.now.known.names fresh.old fresh.new
+            (deps_if (option_map (λ r. row_seen r) row.entry))) }
+        ensures there { IfOk result (λ last. IfSome last (λ v. AreThere self.now.known.names
+            fresh.new (flat_map names_of_text (seen v).depends))) }
     {
-        match shard.row(i) {
+        match row {
             Some(row) => {
-                if self.sources.gives(slot, name, asked, shard, i, row) {
-                    self.add_deps(row.view, fresh)?;
-                }
-                Ok(())
+                self.add_deps(row.view, before, fresh)?;
+                Ok(Some(row.view))
             }
-            None => Ok(()),
+            None => Ok(before),
         }
     }
 
-    // Adds the names that a record depends on.
-    fn add_deps(&self, view: RecordView<'_>, fresh: &mut Listing) -> Result<(), AllocError>
+    // Adds the names that a record depends on, where those of the record before it are there.
+    fn add_deps(
+        &self,
+        view: RecordView<'_>,
+        before: Option<RecordView<'_>>,
+        fresh: &mut Listing,
+    ) -> Result<(), AllocError>
+        requires { IfSome before (λ v. AreThere self.now.known.names fresh.old
+            (flat_map names_of_text (seen v).depends)) }
         ensures { OnOk result (Grows self.now.known.names fresh.old fresh.new
             (flat_map names_of_text (seen view.entry).depends)) }
     {
         for i in 0..view.depends_len() {
-            self.add_at(view, i, fresh)?;
+            self.add_at(view, before, i, fresh)?;
         }
         Ok(())
     }
 
-    // Adds the name of the `depends` text of a place.
-    fn add_at(&self, view: RecordView<'_>, i: usize, fresh: &mut Listing) -> Result<(), AllocError>
+    // Adds the name of the `depends` text of a place, where those of the record before it are there.
+    fn add_at(
+        &self,
+        view: RecordView<'_>,
+        before: Option<RecordView<'_>>,
+        i: usize,
+        fresh: &mut Listing,
+    ) -> Result<(), AllocError>
+        requires { IfSome before (λ v. AreThere self.now.known.names fresh.old
+            (flat_map names_of_text (seen v).depends)) }
         ensures { OnOk result (Grows self.now.known.names fresh.old fresh.new
             (names_if (slice_get (seen view.entry).depends i))) }
     {
         match view.depend(i) {
-            Some(text) => self.add_text(text, fresh),
+            Some(text) => self.add_text_unless(text, before, i, fresh),
             None => Ok(()),
         }
+    }
+
+    // Adds the name that a text is about, unless the record before, whose names are there, has the text
+    // at the same place.
+    fn add_text_unless(
+        &self,
+        text: &str,
+        before: Option<RecordView<'_>>,
+        i: usize,
+        fresh: &mut Listing,
+    ) -> Result<(), AllocError>
+        requires { IfSome before (λ v. AreThere self.now.known.names fresh.old
+            (flat_map names_of_text (seen v).depends)) }
+        ensures { OnOk result (Grows self.now.known.names fresh.old fresh.new
+            (names_of_text text.now)) }
+    {
+        if stands_in(before, i, text) {
+            return Ok(());
+        }
+        self.add_text(text, fresh)
     }
 
     // Adds the name that a text is about.
@@ -148,6 +181,26 @@ impl<P: PinHolder, H: LeafHolder> Plan<P, H> {
             name.now) }
     {
         search(&self.names, &self.order, name.as_str()).is_ok() || others.has(name.as_str())
+    }
+}
+
+// Whether a text stands at a place of the `depends` of a record, where there is one.
+fn stands_in(before: Option<RecordView<'_>>, i: usize, text: &str) -> bool
+    ensures { result ≡ stands_in i text.now (option_map (λ v. (seen v).depends) before.entry) }
+{
+    match before {
+        Some(view) => is_that(text, view.depend(i)),
+        None => false,
+    }
+}
+
+// Whether a text is the one that is there.
+fn is_that(text: &str, other: Option<&str>) -> bool
+    ensures { result ≡ is_that text.now (option_map (λ t. t.now) other.entry) }
+{
+    match other {
+        Some(other) => other == text,
+        None => false,
     }
 }
 

@@ -6,7 +6,7 @@ ghost use Rattle.std.specs.Option.{option_map, option_to_list};
 ghost use Rattle.conda_record.specs.View.{seen};
 ghost use Rattle.shard_file.specs.Seen.{row_seen};
 ghost use Rattle.closure_plan.specs.Names.{is_name};
-ghost use Rattle.closure_plan.specs.Given.{gives, hits, is_asked, is_left_out, name_in, named, stays};
+ghost use Rattle.closure_plan.specs.Given.{gives, hits, is_asked, is_left_out, name_in, named, passed, stays};
 ghost use Rattle.closure_plan.specs.Roots.{asked_of, specs_at};
 
 use crate::holders::PinHolder;
@@ -95,6 +95,26 @@ impl<P: PinHolder> Sources<P> {
         has_name(row, name)
             && self.stays(shard, name, i, row)
             && self.is_asked(slot, name, asked, row)
+    }
+
+    // The row of a place of a shard, where it is given; the specs of the name have these numbers.
+    pub(crate) fn given<'a>(
+        &self,
+        slot: usize,
+        name: &Name,
+        asked: Option<&[usize]>,
+        shard: &'a Shard,
+        i: usize,
+    ) -> Option<ShardRow<'a>>
+        requires { option_map (λ numbers. specs_at self.now.request.specs numbers.now) asked
+            ≡ asked_of self.now.request.specs name.now }
+        ensures { option_map (λ row. row_seen row) result ≡ passed (gives self.now.request slot
+            name.now shard.now.rows) (slice_get shard.now.rows i) }
+    {
+        match shard.row(i) {
+            Some(row) if self.gives(slot, name, asked, shard, i, row) => Some(row),
+            Some(_) | None => None,
+        }
     }
 }
 
