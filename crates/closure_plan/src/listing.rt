@@ -48,7 +48,8 @@ impl Listing {
 
     // The number of a name, or None where it isn't there.
     pub(crate) fn number(&self, name: &str) -> Option<usize>
-        ensures some { IfSome result (λ k. (k < length self.now) × (name_at self.now k ≡ name.now)) }
+        ensures some { IfSome result
+            (λ k. (k < length self.now) × (name_at self.now k ≡ name.now)) }
         ensures none { IfNone result (has_name self.now name.now ≡ false) }
     {
         match search(&self.names, &self.order, name) {
