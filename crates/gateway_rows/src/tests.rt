@@ -1,12 +1,16 @@
-//! Runs of `show` and `index`, and what the rows share.
+//! Runs of `show`, `index` and `closure`, and what the rows share.
 
 use gateway_tool::Note;
 use mp_codec::FormatFault;
 
+mod bad_files;
+mod channels;
+mod closure;
 mod index;
 mod limits;
 mod outside;
 mod shards;
+mod stops;
 mod texts;
 mod words;
 
