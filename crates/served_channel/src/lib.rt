@@ -7,3 +7,6 @@
 mod laws;
 
 pub use laws::what_was_indexed_comes_back;
+
+#[cfg(test)]
+mod tests;
