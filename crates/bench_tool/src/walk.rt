@@ -8,7 +8,9 @@ use crate::words::Words;
 use anyhow::anyhow;
 use mp_codec::{Cursor, FormatFault};
 
-// How many bytes the values take that stand one behind the other up to the end.
+// How many bytes the values take that stand one behind the other up to the end. It is compiled as a
+// function of its own, as the loop in C is, so that no other yardstick's values take its registers.
+#[inline(never)]
 fn walk(bytes: &[u8]) -> Result<usize, FormatFault>
     ensures all { IfOk result (λ walked. walked ≡ length bytes.now) }
     ensures values { OnOk result (AreValues bytes.now) }
