@@ -32,7 +32,7 @@ key_itself : (r : Asking) (pins : Pins) (names : List Name) (m : Need) → IsNee
 key_itself r pins names (need.Index s) i = ap (λ b. b && bytes_eq (slot_at r s).subdir (slot_at r s).subdir) (text_itself (slot_at r s).channel.base) ∙ text_itself (slot_at r s).subdir
 key_itself r pins names (need.Shard s k) i = digest_itself (wanted r pins s (name_at names k)) i.1
 
-marked_key : (r : Asking) (pins : Pins) (names : List Name) (m : Need) → IsNeed r pins names m → (ms : List Need) → has_need ms m ≡ true → list_any (is_key r pins (wish_of names m)) (map (wish_of names) ms) ≡ true
+pub marked_key : (r : Asking) (pins : Pins) (names : List Name) (m : Need) → IsNeed r pins names m → (ms : List Need) → has_need ms m ≡ true → list_any (is_key r pins (wish_of names m)) (map (wish_of names) ms) ≡ true
 marked_key r pins names m i [] e = absurd (true≢false (sym e))
 marked_key r pins names m i (x ∷ xs) e = elim (same_need m x) as (λ b. same_need m x ≡ b → (b || has_need xs m) ≡ true → (is_key r pins (wish_of names m) (wish_of names x) || list_any (is_key r pins (wish_of names m)) (map (wish_of names) xs)) ≡ true) [
   | true ↦ λ same e. ap (λ b. b || list_any (is_key r pins (wish_of names m)) (map (wish_of names) xs)) (ap (λ y. is_key r pins (wish_of names m) (wish_of names y)) (sym (same_is m x same)) ∙ key_itself r pins names m i)

@@ -1,15 +1,20 @@
 -- Names that are added, one after another.
-use Rattle.std.proofs.Common.{◌≡◌, ℕ, zero, suc, ◌+◌, ◌<◌, arith, Bool, true, false, cond, ◌||◌, ◌&&◌, List, [], ◌∷◌, ◌++◌, length, take, refl, sym, ap, subst, ◌∙◌, true≢false, append_assoc, filter, flat_map, Option, Some, None}
-use Rattle.std.specs.List.{IsDistinct, AllByRecursion, slice_get, slice_index_or}
+use Rattle.std.proofs.Common.{◌≡◌, ℕ, zero, suc, ◌+◌, ◌<◌, arith, Bool, true, false, cond, ◌||◌, ◌&&◌, ◌==◌, List, [], ◌∷◌, ◌++◌, length, map, take, refl, sym, ap, subst, ◌∙◌, true≢false, append_assoc, filter, flat_map, Option, Some, None}
+use Rattle.std.specs.Char.{to_ascii_lowercase}
+use Rattle.std.specs.Cmp.{unsigned_Decides}
+use Rattle.std.specs.List.{IsDistinct, AllByRecursion, list_all, slice_get, slice_index_or}
 use Rattle.std.proofs.lemmas.List.{take_more}
 use Rattle.std.proofs.lemmas.List.Elements.{filter-append}
 use Rattle.std.proofs.lemmas.List.Concat.{flat_map-append}
 use Rattle.std.proofs.lemmas.List.Folds.{list_any-append}
 use Rattle.std.proofs.lemmas.Option.{slice_get-get_or}
-use Rattle.std.proofs.lemmas.Map.Keys.{IsDistinct-head, IsDistinct-tail, IsDistinct-cons}
+use Rattle.std.specs.List.Sorted.{IsPermutation}
+use Rattle.std.proofs.lemmas.List.Sorted.{IsPermutation-append_comm, IsPermutation-append_left, list_any-IsPermutation}
+use Rattle.std.proofs.lemmas.Map.Keys.{IsDistinct-head, IsDistinct-tail, IsDistinct-cons, IsDistinct-IsPermutation}
 use Rattle.std.specs.Option.{IfSome, option_map}
 use Rattle.mp_codec.proofs.KeyLemmas.{same_bytes}
 use Rattle.shard_file.specs.Rows.{Row}
+use Rattle.conda_name.specs.Name.{lower_case}
 use Rattle.closure_plan.specs.Names.{Name, is_name, has_name}
 use Rattle.closure_request.specs.Request.{Asking}
 use Rattle.closure_plan.specs.Given.{names_of_text, names_if, deps_of, deps_if, passed, name_in, named, stays, is_asked, given_of, gives}
@@ -76,6 +81,22 @@ module _ (names fresh : List Name) (n : Name) where
     members = λ q. ap (λ ns. has_name ns q) (sym (append_assoc names fresh (n ∷ []))) ∙ list_any-append (is_name q) (names ++ fresh) (n ∷ []);
     distinct = λ d. subst (IsDistinct is_name) (append_assoc names fresh (n ∷ [])) (distinct_push (names ++ fresh) d (all_flipped (names ++ fresh) (list_any-append (is_name n) names fresh ∙ e)));
   }
+
+-- the new names in another order
+pub grows_turned : (names old new turned xs : List Name) → Grows names old new xs → IsPermutation new turned → Grows names old turned xs
+grows_turned names old new turned xs g p = record {
+  members = λ q. list_any-append (is_name q) names turned ∙ ap (λ b. has_name names q || b) (sym (list_any-IsPermutation (is_name q) new turned p)) ∙ sym (list_any-append (is_name q) names new) ∙ g.members q;
+  distinct = λ d.
+      let front : IsDistinct is_name (new ++ names) = IsDistinct-IsPermutation is_name flipped (names ++ new) (new ++ names) (IsPermutation-append_comm names new) (g.distinct d) in
+      let other : IsDistinct is_name (turned ++ names) = IsDistinct-IsPermutation is_name flipped (new ++ names) (turned ++ names) (IsPermutation-append_left names new turned p) front in
+      IsDistinct-IsPermutation is_name flipped (turned ++ names) (names ++ turned) (IsPermutation-append_comm turned names) other;
+}
+  where
+    flipped : (x y : Name) → is_name x y ≡ is_name y x
+    flipped x y = elim (is_name y x) as (λ b. is_name y x ≡ b → is_name x y ≡ b) [
+      | true ↦ λ e. ap (is_name x) (one_name y x e) ∙ itself x
+      | false ↦ λ e. flip [] [] y x e
+    ] refl
 
 -- ---- names that are there already
 
@@ -172,3 +193,11 @@ lower_is b x n e = elim (is_name n x) as (λ t. is_name n x ≡ t → b ≡ t) [
     | false ↦ λ k. refl
   ] (e.0)
 ] refl
+
+-- a text without letters in upper case
+pub lower_itself : (text : List ℕ) → list_all (λ b. b == to_ascii_lowercase b) text ≡ true → lower_case text ≡ text
+lower_itself [] all = refl
+lower_itself (b ∷ bs) all = elim (b == to_ascii_lowercase b) as (λ c. (b == to_ascii_lowercase b) ≡ c → (c && list_all (λ b. b == to_ascii_lowercase b) bs) ≡ true → map to_ascii_lowercase (b ∷ bs) ≡ b ∷ bs) [
+  | true ↦ λ same rest. ap (λ x. x ∷ map to_ascii_lowercase bs) (sym ((unsigned_Decides b (to_ascii_lowercase b)).0 same)) ∙ ap (λ xs. b ∷ xs) (lower_itself bs rest)
+  | false ↦ λ _ e. absurd (true≢false (sym e))
+] refl all

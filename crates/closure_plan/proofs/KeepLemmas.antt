@@ -88,14 +88,14 @@ module _ {P H : Type 0} (pinned : P → indexes.Contents) (held : H → shards.C
 -- ---- a pin
 
 -- a pin at a slot without one leaves each other slot as it was
-ext : {P : Type 0} (pinned : P → indexes.Contents) (pins : List (Option P)) (slot : ℕ) (p : P) → pin_at (pins_of pinned pins) slot ≡ None → Extends (pins_of pinned pins) (pins_of pinned (slice_set pins slot (Some p)))
+pub ext : {P : Type 0} (pinned : P → indexes.Contents) (pins : List (Option P)) (slot : ℕ) (p : P) → pin_at (pins_of pinned pins) slot ≡ None → Extends (pins_of pinned pins) (pins_of pinned (slice_set pins slot (Some p)))
 ext pinned [] slot p none t index e = e
 ext pinned (x ∷ xs) zero p none zero index e = absurd (true≢false (sym (ap is_some e) ∙ ap is_some none))
 ext pinned (x ∷ xs) zero p none (suc t) index e = e
 ext pinned (x ∷ xs) (suc s) p none zero index e = e
 ext pinned (x ∷ xs) (suc s) p none (suc t) index e = ext pinned xs s p none t index e
 
-other_pin : {P : Type 0} (pinned : P → indexes.Contents) (pins : List (Option P)) (slot : ℕ) (x : Option P) (t : ℕ) → (slot ≡ t → ⊥) → pin_at (pins_of pinned (slice_set pins slot x)) t ≡ pin_at (pins_of pinned pins) t
+pub other_pin : {P : Type 0} (pinned : P → indexes.Contents) (pins : List (Option P)) (slot : ℕ) (x : Option P) (t : ℕ) → (slot ≡ t → ⊥) → pin_at (pins_of pinned (slice_set pins slot x)) t ≡ pin_at (pins_of pinned pins) t
 other_pin pinned [] slot x t apart = refl
 other_pin pinned (y ∷ ys) zero x zero apart = absurd (apart refl)
 other_pin pinned (y ∷ ys) zero x (suc t) apart = refl

@@ -22,4 +22,5 @@ pub mod Examples
 pub mod StartLemmas
 pub mod RootLemmas
 pub mod NeedLemmas
+pub mod FillLemmas
 pub mod SlotLemmas

@@ -3,7 +3,7 @@ use Rattle.std.proofs.Common.{◌≡◌, ◌⊎◌, inl, inr, ℕ, zero, suc, �
 use Rattle.std.specs.List.{All, AllByRecursion, insert, slice_index_or}
 use Rattle.std.specs.List.Sorted.{IsSortedBy, IsNonDecreasingBy, IsPartitionPoint, IsBinarySearchResult, IsSearchInRange}
 use Rattle.std.specs.Ordering.{is_lt, is_eq, ordering_index, ordering_reverse}
-use Rattle.std.specs.Prelude.{IfOk, is_ok}
+use Rattle.std.specs.Prelude.{IfOk, IfErr, is_ok}
 use Rattle.std.specs.FinMap.Entries as entries
 use Rattle.std.specs.declared.cmp.Ordering.{Ordering}
 use Rattle.std.specs.declared.cmp.Ordering.TheVariants.{Less, Equal, Greater}
@@ -193,24 +193,33 @@ module _ (all listed : List Name) (order : List ℕ) (o : IsOrder all listed ord
     within = o.within;
   }
 
--- the name of a number behind the listed ones
-pub behind_name : (names fresh : List Name) (i : ℕ) → name_at (names ++ fresh) (length names + i) ≡ name_at fresh i
-behind_name names fresh i = get_or-append-add names fresh i []
+-- the end of a search is within the list
+pub search_end : (r : Result ℕ ℕ) (len : ℕ) → IsSearchInRange r len → IfErr r (λ at. at ≤ len)
+search_end (Ok at) len within = tt
+search_end (Err at) len within = within
+
+module _ (names : List Name) (n : Name) (order : List ℕ) (r : Result ℕ ℕ) (bound : IsSearchInRange r (length order)) (found : IsBinarySearchResult (compared (name_at names) n) order r) where
+  -- whatever names the numbers are of, a name that was found stays where it is
+  pub search_known_all : IfOk r (λ _. (listed : List Name) → IsOrder names listed order → with_name n (map (name_at names) order) ≡ map (name_at names) order)
+  search_known_all = elim r as (λ (q : Result ℕ ℕ). r ≡ q → IfOk q (λ _. (listed : List Name) → IsOrder names listed order → with_name n (map (name_at names) order) ≡ map (name_at names) order)) [
+    | Ok at ↦ λ e listed o. search_same (name_at names) n order listed o.is r bound found at e
+    | Err at ↦ λ e. tt
+  ] refl
+
+  -- and a new one goes to the place where the search ended
+  pub search_new_all : IfErr r (λ at. (listed : List Name) → IsOrder names listed order → with_name n (map (name_at names) order) ≡ insert (map (name_at names) order) at n)
+  search_new_all = elim r as (λ (q : Result ℕ ℕ). r ≡ q → IfErr q (λ at. (listed : List Name) → IsOrder names listed order → with_name n (map (name_at names) order) ≡ insert (map (name_at names) order) at n)) [
+    | Ok at ↦ λ e. tt
+    | Err at ↦ λ e listed o. search_place (name_at names) n order listed o.is r bound found at e
+  ] refl
 
 -- ---- some names more, one after another
 
-append_none : (xs : List Name) → xs ++ [] ≡ xs
-append_none [] = refl
-append_none (x ∷ xs) = ap (λ ys. x ∷ ys) (append_none xs)
+pub names_more : (names : List Name) (i : ℕ) (order : List ℕ) → i < length names → IsOrder names (take i names ++ name_at names i ∷ []) order → IsOrder names (take (i + 1) names) order
+names_more names i order l o = subst (λ ns. IsOrder names ns order) (sym (take_more names i [] l)) o
 
-pub numbers_start : (all listed fresh : List Name) (order : List ℕ) → IsOrder all listed order → IsOrder all (listed ++ take 0 fresh) order
-numbers_start all listed fresh order o = subst (λ ns. IsOrder all ns order) (sym (append_none listed)) o
-
-pub numbers_more : (all listed fresh : List Name) (i : ℕ) (order : List ℕ) → i < length fresh → IsOrder all ((listed ++ take i fresh) ++ name_at fresh i ∷ []) order → IsOrder all (listed ++ take (i + 1) fresh) order
-numbers_more all listed fresh i order l o = subst (λ ns. IsOrder all ns order) (append_assoc listed (take i fresh) (name_at fresh i ∷ []) ∙ ap (λ ns. listed ++ ns) (sym (take_more fresh i [] l))) o
-
-pub numbers_end : (all listed fresh : List Name) (i : ℕ) (order : List ℕ) → length fresh ≤ i → IsOrder all (listed ++ take i fresh) order → IsOrder all (listed ++ fresh) order
-numbers_end all listed fresh i order l o = subst (λ ns. IsOrder all (listed ++ ns) order) (take_all i fresh l) o
+pub names_end : (names : List Name) (i : ℕ) (order : List ℕ) → length names ≤ i → IsOrder names (take i names) order → IsOrder names names order
+names_end names i order l o = subst (λ ns. IsOrder names ns order) (take_all i names l) o
 
 -- no numbers are those of no names
 pub no_order : (all : List Name) → IsOrder all [] []

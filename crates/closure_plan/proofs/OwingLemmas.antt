@@ -1,26 +1,27 @@
 -- The names of which a shard may still be owed decide what is asked for next, and whether all is given.
-use Rattle.std.proofs.Common.{◌≡◌, ℕ, zero, suc, ◌<◌, Bool, true, false, cond, ◌||◌, ◌&&◌, not, T, List, [], ◌∷◌, ◌++◌, map, length, take, drop, filter, find, flat_map, refl, sym, ap, subst, ◌∙◌, true≢false, Option, Some, None}
+use Rattle.std.proofs.Common.{◌≡◌, ℕ, zero, suc, ◌+◌, ◌<◌, ◌≤◌, arith, ltb, ltb-true, ltb-false, append_assoc, Bool, true, false, cond, ◌||◌, ◌&&◌, not, T, List, [], ◌∷◌, ◌++◌, map, length, take, drop, filter, find, flat_map, refl, sym, ap, subst, ◌∙◌, true≢false, Option, Some, None}
 use Rattle.std.specs.Prelude.{is_some}
 use Rattle.std.specs.Ordering.{is_lt}
 use Rattle.std.specs.List.{All, AllByRecursion, list_all, list_any, slice_index_or, remove}
 use Rattle.std.specs.Option.{option_or}
-use Rattle.std.proofs.lemmas.List.{map-append}
+use Rattle.std.proofs.lemmas.List.{map-append, get_or_append_left}
 use Rattle.std.proofs.lemmas.List.Elements.{All-append, All-take, All-drop, recursion_from_All}
 use Rattle.std.proofs.lemmas.List.Folds.{find-append, list_all-append, list_any-append}
 use Rattle.shard_file.specs.Rows as shards
 use Rattle.shard_index.specs.Index as indexes
 use Rattle.closure_plan.specs.Names.{Name, is_name, has_name, by_bytes, ascending}
 use Rattle.closure_request.specs.Request.{Asking}
-use Rattle.closure_plan.specs.Given.{Pins, LeafRows, is_at}
+use Rattle.closure_request.specs.Slots.{numbers}
+use Rattle.closure_plan.specs.Given.{Pins, LeafRows, is_at, wanted}
 use Rattle.closure_plan.specs.Closure.{reach}
 use Rattle.closure_plan.specs.Needs.{Wish, the_index, the_shard, is_given, is_key, shards_of}
 use Rattle.closure_plan.specs.Plan.{Planned, its_pins, its_leaves, its_wishes, name_at, may_ask}
 use Rattle.closure_plan.specs.Fresh.{IsOrder}
 use Rattle.closure_plan.specs.Inside.{Holds}
-use Rattle.closure_plan.specs.Owing.{AreOwing, has_all}
+use Rattle.closure_plan.specs.Owing.{AreOwing, Owes, has_all}
 use Rattle.closure_plan.proofs.NameLemmas.{Within, Rises, pairs, one_name, itself, or_left, or_right, or_cases, same_names, has-ascending, rises-ascending}
 use Rattle.closure_plan.proofs.ArrivalLemmas.{and_first, and_second}
-use Rattle.closure_plan.proofs.NumberLemmas.{in_at}
+use Rattle.closure_plan.proofs.NumberLemmas.{in_at, number_of}
 use Rattle.closure_plan.proofs.OrderLemmas.{order_kept, map_take, map_drop, first_of, second_of}
 use Rattle.std.specs.FinMap.Entries as entries
 
@@ -234,13 +235,69 @@ module _ (r : Asking) (pins : Pins) (names : List Name) (leaves : List LeafRows)
     pub owing_kept : IsOrder (names ++ fresh) (map (name_at names) owing) owing
     owing_kept = order_kept names fresh (map (name_at names) owing) owing o.order o.within
 
-    -- some names and leaves more, where the numbers of the names are among them
-    pub owing_given : (later : List LeafRows) (more : List ℕ) → IsOrder (names ++ fresh) (map (name_at names) owing ++ fresh) more → AreOwing r pins (names ++ fresh) (leaves ++ later) more
-    owing_given later more is = record {
-      order = order_rises (map (name_at (names ++ fresh)) more) (subst Rises (sym is.is) (rises-ascending (map (name_at names) owing ++ fresh)));
-      within = is.within;
-      others = λ n i e.
-          let none : (has_name (map (name_at names) owing) n || has_name fresh n) ≡ false = sym (list_any-append (is_name n) (map (name_at names) owing) fresh) ∙ sym (has-ascending n (map (name_at names) owing ++ fresh)) ∙ ap (λ ns. has_name ns n) (sym is.is) ∙ e in
-          let listed : has_name names n ≡ true = or_right_of (has_name names n) (has_name fresh n) (sym (list_any-append (is_name n) names fresh) ∙ i) (or_false_right (has_name (map (name_at names) owing) n) (has_name fresh n) none) in
-          all_on (is_given pins leaves) (is_given pins (leaves ++ later)) (given_on later) (shards_of r pins n) (o.others n listed (or_false_left (has_name (map (name_at names) owing) n) (has_name fresh n) none));
-    }
+    -- some names and leaves more, where the numbers of those of which a shard is needed are among them
+    pub owing_given : (later : List LeafRows) (more : List ℕ) → Owes r pins (names ++ fresh) (length names) (length (names ++ fresh)) owing more → AreOwing r pins (names ++ fresh) (leaves ++ later) more
+    owing_given later more owes =
+        let owed : List Name = map (name_at names) owing in
+        let put = owes owed owing_kept in record {
+          order = order_rises (map (name_at (names ++ fresh)) more) (subst Rises (sym put.1.is) (rises-ascending (owed ++ put.0)));
+          within = put.1.within;
+          others = λ n i e.
+              let none : (has_name owed n || has_name put.0 n) ≡ false = sym (list_any-append (is_name n) owed put.0) ∙ sym (has-ascending n (owed ++ put.0)) ∙ ap (λ ns. has_name ns n) (sym put.1.is) ∙ e in
+              let at = number_of n (names ++ fresh) i in
+              elim (ltb at.0 (length names)) as (λ b. ltb at.0 (length names) ≡ b → has_all r pins (leaves ++ later) n ≡ true) [
+                | true ↦ λ t.
+                    let listed : has_name names n ≡ true = subst (λ m. has_name names m ≡ true) (sym (get_or_append_left names fresh [] at.0 (ltb-true at.0 (length names) t)) ∙ at.2) (in_at names at.0 (ltb-true at.0 (length names) t)) in
+                    all_on (is_given pins leaves) (is_given pins (leaves ++ later)) (given_on later) (shards_of r pins n) (o.others n listed (or_false_left (has_name owed n) (has_name put.0 n) none))
+                | false ↦ λ t.
+                    let left : has_name put.0 (name_at (names ++ fresh) at.0) ≡ false = ap (has_name put.0) at.2 ∙ or_false_right (has_name owed n) (has_name put.0 n) none in
+                    ap (has_all r pins (leaves ++ later)) (sym at.2) ∙ ap (list_all (is_given pins (leaves ++ later))) (put.2 at.0 (ltb-false at.0 (length names) t) at.1 left)
+              ] refl;
+        }
+
+-- ---- the names of which a shard is needed, one after another
+
+no_more : (xs : List Name) → xs ≡ xs ++ []
+no_more [] = refl
+no_more (x ∷ xs) = ap (λ ys. x ∷ ys) (no_more xs)
+
+module _ (r : Asking) (pins : Pins) (names : List Name) where
+  pub owes_none : (from : ℕ) (old : List ℕ) → Owes r pins names from from old old
+  owes_none from old rest o = ([], subst (λ ns. IsOrder names ns old) (no_more rest) o, λ k low high e. absurd (omega arith))
+
+  unneeded : (n : Name) (ss : List ℕ) → list_all (λ s. not (is_some (wanted r pins s n))) ss ≡ true → flat_map (λ s. cond (is_some (wanted r pins s n)) (the_shard s n ∷ []) []) ss ≡ []
+  unneeded n [] all = refl
+  unneeded n (s ∷ ss) all = elim (is_some (wanted r pins s n)) as (λ b. (not b && list_all (λ s. not (is_some (wanted r pins s n))) ss) ≡ true → (cond b (the_shard s n ∷ []) [] ++ flat_map (λ s. cond (is_some (wanted r pins s n)) (the_shard s n ∷ []) []) ss) ≡ []) [
+    | true ↦ λ e. absurd (true≢false (sym e))
+    | false ↦ λ e. unneeded n ss e
+  ] all
+
+  -- a name of which no shard is needed
+  pub owes_left : (from at : ℕ) (old new : List ℕ) → Owes r pins names from at old new → list_all (λ s. not (is_some (wanted r pins s (name_at names at)))) (numbers r) ≡ true → Owes r pins names from (at + 1) old new
+  owes_left from at old new h none rest o = let put = h rest o in (
+    put.0,
+    put.1,
+    λ k low high e. elim (ltb k at) as (λ b. ltb k at ≡ b → shards_of r pins (name_at names k) ≡ []) [
+      | true ↦ λ t. put.2 k low (ltb-true k at t) e
+      | false ↦ λ t. let here : at ≤ k = ltb-false k at t in let same : k ≡ at = omega arith in ap (λ j. shards_of r pins (name_at names j)) same ∙ unneeded (name_at names at) (numbers r) none
+    ] refl,
+  )
+
+  -- a name of which one is needed
+  pub owes_put : (from at : ℕ) (old mid new : List ℕ) → Owes r pins names from at old mid → ((listed : List Name) → IsOrder names listed mid → IsOrder names (listed ++ name_at names at ∷ []) new) → Owes r pins names from (at + 1) old new
+  owes_put from at old mid new h step rest o = let put = h rest o in (
+    put.0 ++ name_at names at ∷ [],
+    subst (λ ns. IsOrder names ns new) (append_assoc rest put.0 (name_at names at ∷ [])) (step (rest ++ put.0) put.1),
+    λ k low high e.
+        let apart : (has_name put.0 (name_at names k) || has_name (name_at names at ∷ []) (name_at names k)) ≡ false = sym (list_any-append (is_name (name_at names k)) put.0 (name_at names at ∷ [])) ∙ e in
+        elim (ltb k at) as (λ b. ltb k at ≡ b → shards_of r pins (name_at names k) ≡ []) [
+          | true ↦ λ t. put.2 k low (ltb-true k at t) (or_false_left (has_name put.0 (name_at names k)) (has_name (name_at names at ∷ []) (name_at names k)) apart)
+          | false ↦ λ t.
+              let here : at ≤ k = ltb-false k at t in
+              let same : k ≡ at = omega arith in
+              absurd (true≢false (sym (ap (λ j. has_name (name_at names at ∷ []) (name_at names j)) same ∙ or_left (is_name (name_at names at) (name_at names at)) false (itself (name_at names at))) ∙ or_false_right (has_name put.0 (name_at names k)) (has_name (name_at names at ∷ []) (name_at names k)) apart))
+        ] refl,
+  )
+
+  pub owes_end : (from at : ℕ) (old new : List ℕ) → length names ≤ at → Owes r pins names from at old new → Owes r pins names from (length names) old new
+  owes_end from at old new l h rest o = let put = h rest o in (put.0, put.1, λ k low high e. put.2 k low (omega arith) e)

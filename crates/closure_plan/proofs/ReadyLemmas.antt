@@ -1,5 +1,5 @@
 -- What was made before makes a shard's arrival good.
-use Rattle.std.proofs.Common.{◌≡◌, ℕ, ◌+◌, ◌*◌, ◌<◌, ◌≤◌, arith, true, ◌||◌, List, [], ◌∷◌, ◌++◌, length, map, set, find, refl, sym, ap, subst, ◌∙◌, Option, Some}
+use Rattle.std.proofs.Common.{◌≡◌, ℕ, ◌+◌, ◌*◌, ◌<◌, ◌≤◌, arith, true, ◌||◌, List, [], ◌∷◌, ◌++◌, length, map, set, take, find, refl, sym, ap, subst, ◌∙◌, Option, Some}
 use Rattle.std.specs.List.{IsDistinct}
 use Rattle.std.specs.Option.{option_and_then}
 use Rattle.std.proofs.lemmas.List.{length-append, length-map, map-append}
@@ -17,11 +17,12 @@ use Rattle.closure_plan.specs.Plan.{Planned, its_leaves, its_pins, leaf_of, leav
 use Rattle.closure_plan.specs.Inside.{Holds}
 use Rattle.closure_plan.specs.Giving.{reached_by}
 use Rattle.closure_plan.specs.Fresh.{IsOrder}
-use Rattle.closure_plan.specs.Owing.{AreOwing}
+use Rattle.closure_plan.specs.Owing.{AreOwing, Owes}
 use Rattle.closure_plan.specs.Ready.{IsReady}
 use Rattle.closure_plan.proofs.CellLemmas.{cells_given, cells_same}
 use Rattle.closure_plan.proofs.NumberLemmas.{place_low}
-use Rattle.closure_plan.proofs.OwingLemmas.{owing_kept, owing_given}
+use Rattle.closure_plan.proofs.OrderLemmas.{order_kept}
+use Rattle.closure_plan.proofs.OwingLemmas.{owing_given}
 use Rattle.closure_plan.proofs.MarkLemmas.{slot_below}
 use Rattle.closure_plan.proofs.KeepLemmas.{each_pin, marked_need, marked_open}
 use Rattle.closure_plan.proofs.GiveLemmas.{holds_given, leaf_names, leaves_named, none_is}
@@ -64,11 +65,11 @@ module _ {P H : Type 0} (pinned : P → indexes.Contents) (held : H → shards.C
     given name = record { known = record seen.known { names = seen.known.names ++ fresh; leaves = seen.known.leaves ++ record { slot = slot; name = name; holder = holder } ∷ [] }; marked = without (need.Shard slot k) seen.marked }
 
     -- a shard more
-    pub holds_ready : (wide : ℕ) → ready.room ≤ wide
-        → Holds pinned held (given ready.name) ready.order.items wide
-    holds_ready wide l = subst (λ n. Holds pinned held (given n) ready.order.items wide) (sym is.name)
+    pub holds_ready : (order : List ℕ) (wide : ℕ) → IsOrder (seen.known.names ++ fresh) (seen.known.names ++ fresh) order → ready.room ≤ wide
+        → Holds pinned held (given ready.name) order wide
+    holds_ready order wide o l = subst (λ n. Holds pinned held (given n) order wide) (sym is.name)
         (holds_given pinned held seen by_name room h slot k holder (marked_need pinned held seen by_name room h (need.Shard slot k) marked) wanted_is (marked_open pinned held seen by_name room h (need.Shard slot k) marked) fresh apart_names
-        ready.order.items wide new_names is.order.is is.order.within (let r = is.room in omega arith))
+        order wide new_names o.is o.within (let r = is.room in omega arith))
 
     slot_low : slot < length (slots seen.known.request)
     slot_low = slot_below seen.known.request (its_pins pinned held seen.known) seen.known.names (each_pin pinned held seen by_name room h) slot k
@@ -106,9 +107,16 @@ module _ {P H : Type 0} (pinned : P → indexes.Contents) (held : H → shards.C
 
     -- the names of which a shard may be owed, with the new ones
     pub owing_ready : (owing more : List ℕ) → AreOwing seen.known.request (its_pins pinned held seen.known) seen.known.names (its_leaves pinned held seen.known) owing
-        → ((listed : List Name) → IsOrder (seen.known.names ++ fresh) listed owing → IsOrder (seen.known.names ++ fresh) (listed ++ fresh) more)
+        → Owes seen.known.request (its_pins pinned held seen.known) (seen.known.names ++ fresh) (length seen.known.names) (length (seen.known.names ++ fresh)) owing more
         → AreOwing seen.known.request (its_pins pinned held seen.known) (seen.known.names ++ fresh) (leaves_of held (seen.known.leaves ++ record { slot = slot; name = ready.name; holder = holder } ∷ [])) more
-    owing_ready owing more o longer =
+    owing_ready owing more o owes =
         subst (λ (ls : List LeafRows). AreOwing seen.known.request (its_pins pinned held seen.known) (seen.known.names ++ fresh) ls more) (sym (map-append (leaf_of held) seen.known.leaves (record { slot = slot; name = ready.name; holder = holder } ∷ [])))
-        (owing_given seen.known.request (its_pins pinned held seen.known) seen.known.names old owing o fresh (l ∷ []) more
-        (longer (map (name_at seen.known.names) owing) (owing_kept seen.known.request (its_pins pinned held seen.known) seen.known.names old owing o fresh)))
+        (owing_given seen.known.request (its_pins pinned held seen.known) seen.known.names old owing o fresh (l ∷ []) more owes)
+
+    -- the names by number, with the new ones among them
+    pub order_ready : (order : List ℕ) → (IsOrder (seen.known.names ++ fresh) (take (length seen.known.names) (seen.known.names ++ fresh)) by_name → IsOrder (seen.known.names ++ fresh) (seen.known.names ++ fresh) order) → IsOrder (seen.known.names ++ fresh) (seen.known.names ++ fresh) order
+    order_ready order longer = longer (subst (λ ns. IsOrder (seen.known.names ++ fresh) ns by_name) (sym (front seen.known.names)) (order_kept seen.known.names fresh seen.known.names by_name h.order h.within))
+      where
+        front : (ns : List Name) → take (length ns) (ns ++ fresh) ≡ ns
+        front [] = refl
+        front (n ∷ ns) = ap (λ ms. n ∷ ms) (front ns)

@@ -5,6 +5,7 @@ pub mod Closure
 pub mod Needs
 pub mod Plan
 pub mod Giving
+pub mod Filling
 pub mod Start
 pub mod Laws
 pub mod Answered

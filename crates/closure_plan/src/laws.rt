@@ -1,6 +1,9 @@
 //! Laws of the closure, each the contract of a function that does nothing.
 
+ghost use Rattle.closure_plan.specs.Filling.{GiveFills, NextCanBeMarked, PinFills};
 ghost use Rattle.closure_plan.specs.Laws.{ClosureIsGiven, ClosureIsThatOfWorld, EndIsDone, NextIsAskable, GivenIsInClosure, GivenStays, NeedsAreOnce, NothingIsAdded, OrderChangesNothing, ReachIsLeast, ReachStays, RoundsGrow, WantedStays};
+
+use crate::holders::{LeafHolder, PinHolder};
 
 /// Rounds keep what was reached, and end: what is reached has the root names and all that it leads
 /// to, nothing is added after that, and no smaller list of names is so.
@@ -41,4 +44,16 @@ pub fn needs_are_once()
 pub fn the_end_is_done()
     ensures done { EndIsDone }
     ensures next { NextIsAskable }
+{}
+
+/// A pin of a slot, or a shard of a need, that was not given yet fills its need and no other: needs stay
+/// needs with their digests, what is given now was given or is this need, and one need more is given.
+pub fn one_need_is_filled<P: PinHolder, H: LeafHolder>()
+    ensures pin { PinFills P.contents H.contents }
+    ensures give { GiveFills P.contents H.contents }
+{}
+
+/// The need that a plan asks for next may be marked, and no marked need has its key.
+pub fn the_next_can_be_marked<P: PinHolder, H: LeafHolder>()
+    ensures { NextCanBeMarked P.contents H.contents }
 {}

@@ -19,8 +19,8 @@ mod sources;
 pub use answer::{Answer, AnswerRow, Part};
 pub use holders::{LeafHolder, PinHolder};
 pub use laws::{
-    closure_is_what_is_given, more_only_adds, needs_are_once, order_changes_nothing, rounds_end,
-    the_end_is_done,
+    closure_is_what_is_given, more_only_adds, needs_are_once, one_need_is_filled,
+    order_changes_nothing, rounds_end, the_end_is_done, the_next_can_be_marked,
 };
 pub use need::Need;
 pub use plan::Plan;

@@ -1,14 +1,14 @@
 //! Names in the order in which they came, each of which is found by a binary search.
 
 ghost use Rattle.std.specs.Prelude.{◌≡◌, ◌<◌, ◌++◌, ◌∷◌, [], false, length, OnOk, OnErr, IfSome, IfNone};
+ghost use Rattle.std.specs.List.Sorted.{IsPermutation};
 ghost use Rattle.closure_plan.specs.Names.{has_name};
 ghost use Rattle.closure_plan.specs.Plan.{name_at};
 
-use crate::plan::order::{put, search};
+use crate::plan::order::{put_number, search};
 use conda_name::Name;
 use std::alloc::{AllocError, Global};
 use std::marker::Model;
-use std::slice;
 
 // Names, and their numbers in the order of names. Contracts see the names.
 #[derive(Drop)]
@@ -43,7 +43,7 @@ impl Listing {
     pub(crate) fn has(&self, name: &str) -> bool
         ensures { result ≡ has_name self.now name.now }
     {
-        search(&self.names, &self.order, name).is_ok()
+        search(&self.names, &self.order, name.as_bytes()).is_ok()
     }
 
     // The number of a name, or None where it isn't there.
@@ -52,7 +52,7 @@ impl Listing {
             (λ k. (k < length self.now) × (name_at self.now k ≡ name.now)) }
         ensures none { IfNone result (has_name self.now name.now ≡ false) }
     {
-        match search(&self.names, &self.order, name) {
+        match search(&self.names, &self.order, name.as_bytes()) {
             Ok(at) => Some(self.order[at]),
             Err(_) => None,
         }
@@ -64,16 +64,21 @@ impl Listing {
         ensures err { OnErr result (self.new ≡ self.old) }
     {
         self.names.reserve(1)?;
-        put(&self.names, slice::from_ref(&name), 0, &mut self.order)?;
+        self.order.reserve(1)?;
         self.names.push_reserved(name);
+        put_number(&self.names, self.names.len() - 1, &mut self.order);
         Ok(())
     }
 
-    // The names.
+    // The names, by name, so that each of them goes behind those that were put among others before it.
     pub(crate) fn into_names(self) -> Vec<Name>
-        ensures { result.items ≡ self }
+        ensures { IsPermutation self result.items }
     {
-        let Listing { names, order: _ } = self;
+        let Listing {
+            mut names,
+            order: _,
+        } = self;
+        names.sort_unstable_by(|a, b| a.as_str().cmp(b.as_str()));
         names
     }
 }

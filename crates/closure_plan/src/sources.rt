@@ -2,7 +2,7 @@
 
 mod matching;
 
-ghost use Rattle.std.specs.Prelude.{◌≡◌, ◌<◌, ◌&&◌, List, length, slice_get, IfSome, Some, is_some};
+ghost use Rattle.std.specs.Prelude.{◌≡◌, ◌<◌, ◌&&◌, List, length, slice_get, IfSome, Some, is_some, not};
 ghost use Rattle.std.specs.List.{list_all, slice_set};
 ghost use Rattle.std.specs.Option.{option_map};
 ghost use Rattle.std.specs.Str.{bytes_eq};
@@ -146,6 +146,19 @@ impl<P: PinHolder> Sources<P> {
         } else {
             None
         }
+    }
+
+    // Whether no shard of a name is needed in any slot.
+    pub(crate) fn is_unneeded(&self, name: &str) -> bool
+        ensures { result ≡ list_all (λ s. not (is_some (wanted self.now.request (pins_of
+            P.contents self.now.pins) s name.now))) (numbers self.now.request) }
+    {
+        for slot in 0..self.slots() {
+            if self.wanted(slot, name).is_some() {
+                return false;
+            }
+        }
+        true
     }
 
     // The channel of a slot, or None where there is no such slot.

@@ -119,6 +119,13 @@ impl<N: Naming> Pass<N> {
     {
         self.told.is_live()
     }
+
+    /// How many entries of the table's journal name the query.
+    pub fn calls(&self) -> u64
+        ensures { result ≡ self.now.calls }
+    {
+        self.told.calls()
+    }
 }
 
 /// A share of the right to open queries at a table. Contracts see what it says (`specs/Doors`).

@@ -1,11 +1,12 @@
-//! The program `gateway`: makes the real source, sink and store, makes one call, and ends with its
-//! status.
+//! The program `gateway`: makes the real source, sink, store and acceptor, makes one call, and ends
+//! with its status.
 #![tactic(auto)]
 
 use channel_store::FolderStore;
-use gateway_tool::{OUT_OF_MEMORY, USAGE, run_files, status_line};
+use gateway_tool::{OUT_OF_MEMORY, USAGE, run_files, run_serve, status_line};
 use link_io::{StdSink, StdSource};
 use mp_codec::Text;
+use shard_listener::TcpAccept;
 use std::env;
 use std::io::{self, ErrorKind};
 use std::process::ExitCode;
@@ -14,8 +15,12 @@ use std::rt::Env;
 fn main(rt: HostRuntime) -> ExitCode {
     let mut input = StdSource::new(rt.stdin());
     let mut out = StdSink::new(rt.stdout());
+    let mut accept = TcpAccept::new(rt);
     let mut store = FolderStore::new(rt);
     let status = match words(&rt) {
+        Ok(words) if is_serve(words.as_slice()) => {
+            run_serve(&rt, rt.alloc(), words.as_slice(), store, &mut accept)
+        }
         Ok(words) => {
             run_files(
                 rt.alloc(),
@@ -33,6 +38,11 @@ fn main(rt: HostRuntime) -> ExitCode {
         let _ = eprintln!(rt; "{line}");
     }
     ExitCode::from(status)
+}
+
+// Whether the words ask that files be served.
+fn is_serve(words: &[Text]) -> bool {
+    matches!(words, [name, ..] if name.as_str() == "serve")
 }
 
 // The words behind the program's name; one that isn't UTF-8 is an error.

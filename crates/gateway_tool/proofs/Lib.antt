@@ -3,3 +3,4 @@ mod TextLemmas
 mod ClosureLemmas
 mod WordLemmas
 mod AnswerLemmas
+mod ServeLemmas

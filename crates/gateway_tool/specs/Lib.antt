@@ -7,6 +7,8 @@ pub mod Closure
 pub mod Outside
 pub mod Command
 pub mod Meant
+pub mod Serve
+pub mod Asking
 pub use Rattle.gateway_words.specs.Causes
 pub use Rattle.match_spec.specs.Parts
 pub use Rattle.match_spec.specs.Matching

@@ -40,12 +40,16 @@ status_store_fault = 7
 abbrev pub status_bad_file : ℕ
 status_bad_file = 8
 
+-- the acceptor failed: the address is none or is taken, or no connection can come any more
+abbrev pub status_listen_fault : ℕ
+status_listen_fault = 10
+
 -- the lines that are printed on standard error, with their statuses
 abbrev pub status_lines : List (ℕ × List ℕ)
 status_lines =
     (status_not_answered, codes "gateway: some requests were not answered") ∷ (status_usage, codes "gateway: usage") ∷ (status_read_fault, codes "gateway: read fault") ∷ (status_write_fault, codes "gateway: write fault")
     ∷ (status_out_of_memory, codes "gateway: out of memory") ∷ (status_too_much_input, codes "gateway: too much input") ∷ (status_store_fault, codes "gateway: store fault")
-    ∷ (status_bad_file, codes "gateway: bad file") ∷ []
+    ∷ (status_bad_file, codes "gateway: bad file") ∷ (status_listen_fault, codes "gateway: listen fault") ∷ []
 
 -- the line of a status, if it has one
 abbrev pub line_of : ℕ → Option (List ℕ)

@@ -33,6 +33,9 @@ pub const STORE_FAULT: u8 = 7;
 /// too long, of another digest or of another form.
 pub const BAD_FILE: u8 = 8;
 
+/// Connections can't be accepted: the address is none or is taken, or the system failed.
+pub const LISTEN_FAULT: u8 = 10;
+
 /// The line that is printed on standard error for a status, without its newline. `OK` has none,
 /// and no number that isn't a status.
 pub fn status_line(status: u8) -> Option<&'static str>
@@ -47,6 +50,7 @@ pub fn status_line(status: u8) -> Option<&'static str>
         TOO_MUCH_INPUT => Some("gateway: too much input"),
         STORE_FAULT => Some("gateway: store fault"),
         BAD_FILE => Some("gateway: bad file"),
+        LISTEN_FAULT => Some("gateway: listen fault"),
         _ => None,
     }
 }

@@ -126,7 +126,7 @@ fn spec_word(alloc: Global, word: &str) -> Result<Spec, WordsRefusal>
 }
 
 // Whether a word could be taken for an option.
-fn is_option(word: &str) -> bool
+pub(crate) fn is_option(word: &str) -> bool
     ensures { result ≡ is_option word.now }
 {
     word.starts_with('-')

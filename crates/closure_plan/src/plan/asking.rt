@@ -1,6 +1,6 @@
 //! Which need is asked for next, and whether each is given.
 
-ghost use Rattle.std.specs.Prelude.{◌≡◌, ◌&&◌, ◌+◌, ◌*◌, ◌<◌, length, map, IfSome, is_some, not};
+ghost use Rattle.std.specs.Prelude.{◌≡◌, ◌&&◌, ◌+◌, ◌*◌, ◌<◌, length, map, IfSome, is_some, not, true};
 ghost use Rattle.std.specs.List.{list_any, list_all, find, flat_map};
 ghost use Rattle.std.specs.Option.{option_map};
 ghost use Rattle.closure_request.specs.Slots.{numbers, slots};
@@ -8,12 +8,12 @@ ghost use Rattle.closure_plan.specs.Rows.{leaf_or_none};
 ghost use Rattle.closure_plan.specs.Given.{is_at, wanted};
 ghost use Rattle.closure_plan.specs.Closure.{reach};
 ghost use Rattle.closure_plan.specs.Needs.{is_key, is_given, the_index, the_shard, shards_of};
-ghost use Rattle.closure_plan.specs.Plan.{CanMark, has_given, its_done, its_leaves, its_next, its_pins, its_wishes, leaves_of, may_ask, name_at, pins_of, wish_of};
+ghost use Rattle.closure_plan.specs.Plan.{CanMark, IsNeed, has_given, its_done, its_leaves, its_next, its_pins, its_wishes, leaves_of, may_ask, name_at, pins_of, wish_of};
 
 use crate::holders::{LeafHolder, PinHolder};
 use crate::need::Need;
 use crate::plan::Plan;
-use crate::plan::marks::is_digest;
+use crate::plan::marks::{is_digest, is_marked};
 
 impl<P: PinHolder, H: LeafHolder> Plan<P, H> {
     /// The need to ask for next: the least that is not given and whose key no marked need has, the
@@ -87,6 +87,7 @@ impl<P: PinHolder, H: LeafHolder> Plan<P, H> {
 
     // Whether the index of a slot may be asked for.
     fn may_ask_index(&self, slot: usize) -> bool
+        requires { slot < length (slots self.now.known.request) }
         ensures { result ≡ may_ask P.contents H.contents self.now (the_index slot) }
     {
         !self.is_pinned(slot) && !self.has_key(Need::Index(slot))
@@ -109,6 +110,8 @@ impl<P: PinHolder, H: LeafHolder> Plan<P, H> {
     fn may_ask_wanted(&self, slot: usize, n: usize) -> bool
         requires slot { slot < length (slots self.now.known.request) }
         requires name { n < length self.now.known.names }
+        requires needed { is_some (wanted self.now.known.request (its_pins P.contents H.contents
+            self.now.known) slot (name_at self.now.known.names n)) ≡ true }
         ensures { result ≡ may_ask P.contents H.contents self.now (the_shard slot (name_at
             self.now.known.names n)) }
     {
@@ -222,8 +225,23 @@ impl<P: PinHolder, H: LeafHolder> Plan<P, H> {
         }
     }
 
-    // Whether a marked need has the key of a need.
+    // Whether a marked need has the key of a need. Most needs that are looked at are marked themselves,
+    // which takes no look into an index.
     fn has_key(&self, need: Need) -> bool
+        requires { IsNeed self.now.known.request (its_pins P.contents H.contents self.now.known)
+            self.now.known.names need }
+        ensures { result ≡ list_any (is_key self.now.known.request (pins_of P.contents
+            self.now.known.pins)
+            (wish_of self.now.known.names need)) (its_wishes P.contents H.contents self.now) }
+    {
+        if is_marked(&self.marks, need) {
+            return true;
+        }
+        self.has_key_of_other(need)
+    }
+
+    // The same, mark by mark.
+    fn has_key_of_other(&self, need: Need) -> bool
         ensures { result ≡ list_any (is_key self.now.known.request (pins_of P.contents
             self.now.known.pins)
             (wish_of self.now.known.names need)) (its_wishes P.contents H.contents self.now) }

@@ -17,21 +17,11 @@ impl<P: PinHolder, H: LeafHolder> Plan<P, H> {
         }
     }
 
-    // Leaves out the name of a number and the names from another number on, where none is owed.
-    pub(crate) fn close_given(&mut self, n: usize, listed: usize)
-        ensures { self.new ≡ self.old }
-    {
-        self.close(n);
-        for fresh in listed..self.names.len() {
-            self.close(fresh);
-        }
-    }
-
     // Leaves out the name of a number, where none is owed.
-    fn close(&mut self, n: usize)
+    pub(crate) fn close(&mut self, n: usize)
         ensures { self.new ≡ self.old }
     {
-        if let Ok(i) = search(&self.names, &self.owing, self.name_or_empty(n)) {
+        if let Ok(i) = search(&self.names, &self.owing, self.name_or_empty(n).as_bytes()) {
             self.close_at(i);
         }
     }

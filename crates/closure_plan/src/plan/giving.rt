@@ -1,18 +1,19 @@
 //! Taking in indexes and shards.
 
-ghost use Rattle.std.specs.Prelude.{◌≡◌, ◌+◌, ◌*◌, ◌<◌, ◌≤◌, ◌++◌, ℕ, Some, true, length, IfOk, OnOk, OnErr};
+ghost use Rattle.std.specs.Prelude.{◌≡◌, ◌+◌, ◌*◌, ◌<◌, ◌≤◌, ℕ, List, Some, true, length, vec_capacity, IfOk, OnOk, OnErr};
 ghost use Rattle.digest_gate.specs.Digest.{digest_of};
 ghost use Rattle.closure_plan.specs.Cells.{cell_at};
-ghost use Rattle.closure_plan.specs.Fresh.{IsOrder};
 ghost use Rattle.closure_plan.specs.Ready.{IsReady};
 ghost use Rattle.closure_plan.specs.Giving.{Gave, GaveNeed, with_pin};
-ghost use Rattle.closure_plan.specs.Plan.{digest_of_need, has_need, its_pins, without};
+ghost use Rattle.closure_plan.specs.Owing.{Owes};
+ghost use Rattle.closure_plan.specs.Plan.{digest_of_need, has_need, its_pins, pins_of, without};
 
 use crate::holders::{LeafHolder, PinHolder};
 use crate::need::Need;
 use crate::plan::marks::is_same_need;
-use crate::plan::order::numbers_with;
+use crate::plan::order::{put_number, put_numbers, text_at};
 use crate::plan::{GivenLeaf, Plan};
+use crate::sources::Sources;
 use conda_name::Name;
 use shard_file::Shard;
 use std::alloc::AllocError;
@@ -22,7 +23,6 @@ use std::alloc::AllocError;
 pub(crate) struct Ready {
     name: Name,
     fresh: Vec<Name>,
-    order: Vec<usize>,
     room: usize,
 }
 
@@ -71,9 +71,8 @@ impl<P: PinHolder, H: LeafHolder> Plan<P, H> {
         match need {
             Need::Index(_) => Ok(()),
             Need::Shard(slot, n) => {
-                let listed = self.names.len();
                 self.give_shard(slot, n, holder)?;
-                self.close_given(n, listed);
+                self.close(n);
                 Ok(())
             }
         }
@@ -93,20 +92,20 @@ impl<P: PinHolder, H: LeafHolder> Plan<P, H> {
     {
         let place = self.place_of(slot, n);
         let ready = self.ready(slot, n, holder.leaf().shard())?;
-        let alloc = *self.names.allocator();
-        let owing = numbers_with(alloc, &self.names, &ready.fresh, &self.owing)?;
+        let listed = self.names.len();
         let Ready {
             name,
             mut fresh,
-            order,
             room,
         } = ready;
         self.marks.reserve(room)?;
         self.leaves.reserve(1)?;
         grow(&mut self.cells, room)?;
+        self.order.reserve(fresh.len())?;
+        self.owing.reserve(fresh.len())?;
         self.names.append(&mut fresh)?;
-        self.order = order;
-        self.owing = owing;
+        put_numbers(&self.names, listed, &mut self.order);
+        put_owed(&self.sources, &self.names, listed, &mut self.owing);
         self.cells[place] = Some(self.leaves.len());
         self.leaves.push_reserved(GivenLeaf { slot, name, holder });
         self.marks
@@ -121,25 +120,41 @@ impl<P: PinHolder, H: LeafHolder> Plan<P, H> {
             n shard.now.rows ready) }
     {
         let name = &self.names[n];
-        let fresh = self.fresh(slot, name, shard)?.into_names();
-        let order = self.order_with(&fresh)?;
+        let fresh = self.fresh(slot, name, shard)?;
         let room = room_for(self.slots(), self.names.len(), fresh.len())?;
         let name = name.copy(*self.names.allocator())?;
-        Ok(Ready {
-            name,
-            fresh,
-            order,
-            room,
-        })
+        Ok(Ready { name, fresh, room })
     }
+}
 
-    // The numbers of the names with some more behind them, by name.
-    fn order_with(&self, fresh: &[Name]) -> Result<Vec<usize>, AllocError>
-        ensures { IfOk result (λ order. IsOrder (self.now.known.names ++ fresh.now)
-            (self.now.known.names ++ fresh.now) order.items) }
-    {
-        numbers_with(*self.names.allocator(), &self.names, fresh, &self.order)
+// Puts the numbers of those names from one on of which a shard is needed into their places. There is
+// room for them.
+fn put_owed<P: PinHolder>(sources: &Sources<P>, names: &[Name], from: usize, owing: &mut Vec<usize>)
+    requires room { length owing.old.items + length names.now ≤ from + vec_capacity owing.old }
+    ensures { Owes sources.now.request (pins_of P.contents sources.now.pins) names.now from
+        (length names.now) owing.old.items owing.new.items }
+{
+    for n in from..names.len() {
+        put_if_owed(sources, names, n, owing);
     }
+}
+
+// Puts the number of a name into its place, where a shard of it is needed. There is room for it.
+fn put_if_owed<P: PinHolder>(sources: &Sources<P>, names: &[Name], n: usize, owing: &mut Vec<usize>)
+    requires name { n < length names.now }
+    requires room { length owing.old.items < vec_capacity owing.old }
+    ensures owes { (from : ℕ) (old : List ℕ)
+        → Owes sources.now.request (pins_of P.contents sources.now.pins) names.now from n old
+        owing.old.items
+        → Owes sources.now.request (pins_of P.contents sources.now.pins) names.now from (n + 1) old
+        owing.new.items }
+    ensures len { length owing.new.items ≤ length owing.old.items + 1 }
+    ensures capacity { vec_capacity owing.old ≤ vec_capacity owing.new }
+{
+    if sources.is_unneeded(text_at(names, n)) {
+        return;
+    }
+    put_number(names, n, owing);
 }
 
 // How many marks there can be of some slots, some names and more of them.

@@ -29,6 +29,13 @@ impl<P: PinHolder, H: LeafHolder> Plan<P, H> {
     }
 }
 
+// Whether a need is marked.
+pub(crate) fn is_marked(marks: &[Need], need: Need) -> bool
+    ensures { result ≡ has_need marks.now need }
+{
+    marks.iter().any(|mark| is_same_need(need, *mark))
+}
+
 // Whether two needs are one.
 pub(crate) fn is_same_need(one: Need, other: Need) -> bool
     ensures { result ≡ same_need one other }

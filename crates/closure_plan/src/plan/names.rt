@@ -1,7 +1,8 @@
 //! The names that a shard reaches.
 
-ghost use Rattle.std.specs.Prelude.{◌≡◌, ◌||◌, ◌∷◌, [], Ok, slice_get, IfOk, IfSome, OnOk};
-ghost use Rattle.std.specs.List.{filter, flat_map};
+ghost use Rattle.std.specs.Prelude.{◌≡◌, ◌==◌, ◌||◌, ◌∷◌, [], Ok, slice_get, IfOk, IfSome, OnOk};
+ghost use Rattle.std.specs.List.{filter, flat_map, list_all};
+ghost use Rattle.std.specs.Char.{to_ascii_lowercase};
 ghost use Rattle.std.specs.Option.{option_map};
 ghost use Rattle.conda_name.specs.Name.{lower_case, name_of};
 ghost use Rattle.conda_record.specs.View.{seen};
@@ -27,22 +28,23 @@ impl<P: PinHolder, H: LeafHolder> Plan<P, H> {
         slot: usize,
         name: &Name,
         shard: &Shard,
-    ) -> Result<Listing, AllocError>
-        ensures { IfOk result (λ fresh. Grows self.now.known.names [] fresh
+    ) -> Result<Vec<Name>, AllocError>
+        ensures { IfOk result (λ fresh. Grows self.now.known.names [] fresh.items
             (reached_by self.now.known.request slot name.now shard.now.rows)) }
     {
         if self.sources.request.flat {
-            return Ok(Listing::new(*self.names.allocator()));
+            return Ok(Vec::new(*self.names.allocator()));
         }
         self.new_names(slot, name, shard)
     }
 
     // The names that aren't listed, of those that the given rows of a shard depend on.
-    fn new_names(&self, slot: usize, name: &Name, shard: &Shard) -> Result<Listing, AllocError>
-        ensures { IfOk result (λ fresh. Grows self.now.known.names [] fresh
+    fn new_names(&self, slot: usize, name: &Name, shard: &Shard) -> Result<Vec<Name>, AllocError>
+        ensures { IfOk result (λ fresh. Grows self.now.known.names [] fresh.items
             (flat_map deps_of (given_of self.now.known.request slot name.now shard.now.rows))) }
     {
-        self.names_of_rows(slot, name, shard)
+        let names = self.names_of_rows(slot, name, shard)?;
+        Ok(names.into_names())
     }
 
     // The names that aren't listed, of those that the rows of a shard depend on that pass.
@@ -159,8 +161,26 @@ impl<P: PinHolder, H: LeafHolder> Plan<P, H> {
         ensures { OnOk result (Grows self.now.known.names fresh.old fresh.new
             (lower_case dep.now ∷ [])) }
     {
+        if is_lower_case(dep.as_bytes()) {
+            return self.add_lower(dep, fresh);
+        }
         let name = read_name(*self.names.allocator(), dep)?;
         self.add_new(name, fresh)
+    }
+
+    // The same, where the text is the name: no memory is taken for one that is listed.
+    fn add_lower(&self, dep: &str, fresh: &mut Listing) -> Result<(), AllocError>
+        requires reads { name_of dep.now ≡ Ok (lower_case dep.now) }
+        requires lower { lower_case dep.now ≡ dep.now }
+        ensures { OnOk result (Grows self.now.known.names fresh.old fresh.new
+            (lower_case dep.now ∷ [])) }
+    {
+        if self.is_listed(dep, fresh) {
+            return Ok(());
+        }
+        let name = read_name(*self.names.allocator(), dep)?;
+        fresh.push(name)?;
+        Ok(())
     }
 
     // Adds a name, where it isn't listed.
@@ -168,7 +188,7 @@ impl<P: PinHolder, H: LeafHolder> Plan<P, H> {
         ensures { OnOk result (Grows self.now.known.names fresh.old fresh.new (name
             ∷ [])) }
     {
-        if self.is_listed(&name, fresh) {
+        if self.is_listed(name.as_str(), fresh) {
             return Ok(());
         }
         fresh.push(name)?;
@@ -176,12 +196,19 @@ impl<P: PinHolder, H: LeafHolder> Plan<P, H> {
     }
 
     // Whether a name is listed or among others.
-    fn is_listed(&self, name: &Name, others: &Listing) -> bool
+    fn is_listed(&self, name: &str, others: &Listing) -> bool
         ensures { result ≡ (has_name self.now.known.names name.now || has_name others.now
             name.now) }
     {
-        search(&self.names, &self.order, name.as_str()).is_ok() || others.has(name.as_str())
+        search(&self.names, &self.order, name.as_bytes()).is_ok() || others.has(name)
     }
+}
+
+// Whether a text is in lower case.
+fn is_lower_case(text: &[u8]) -> bool
+    ensures { result ≡ list_all (λ b. b == to_ascii_lowercase b) text.now }
+{
+    text.iter().all(|b| *b == b.to_ascii_lowercase())
 }
 
 // Whether a text stands at a place of the `depends` of a record, where there is one.

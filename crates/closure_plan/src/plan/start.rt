@@ -3,14 +3,14 @@
 ghost use Rattle.std.specs.Prelude.{◌≡◌, ◌++◌, ◌∷◌, [], IfOk, OnOk};
 ghost use Rattle.std.specs.List.{flat_map, range_with_len};
 ghost use Rattle.closure_request.specs.Request.{root_names_of};
-ghost use Rattle.closure_plan.specs.Fresh.{Grows};
+ghost use Rattle.closure_plan.specs.Fresh.{Grows, IsOrder};
 ghost use Rattle.closure_plan.specs.Start.{IsUntouched, places_in, unpinned};
 
 use crate::holders::{LeafHolder, PinHolder};
 use crate::listing::Listing;
 use crate::plan::Plan;
 use crate::plan::giving::room_for;
-use crate::plan::order::numbers_with;
+use crate::plan::order::put_numbers;
 use crate::roots::Roots;
 use crate::sources::{Place, Sources};
 use closure_request::Request;
@@ -25,8 +25,8 @@ impl<P: PinHolder, H: LeafHolder> Plan<P, H> {
     {
         let places = places_of(alloc, request.channels.len(), request.subdirs.len())?;
         let names = roots(alloc, &request.specs)?;
-        let order = numbers_with(alloc, &[], &names, &[])?;
-        let owing = numbers_with(alloc, &[], &names, &[])?;
+        let order = numbers_of(alloc, &names)?;
+        let owing = Vec::from_slice(alloc, &order)?;
         let pins = no_pins(alloc, places.len())?;
         let room = room_for(places.len(), names.len(), 0)?;
         let marks = Vec::with_capacity(alloc, room)?;
@@ -98,6 +98,15 @@ fn add_root(alloc: Global, name: &Name, names: &mut Listing) -> Result<(), Alloc
     }
     names.push(name.copy(alloc)?)?;
     Ok(())
+}
+
+// The numbers of some names, by name.
+fn numbers_of(alloc: Global, names: &[Name]) -> Result<Vec<usize>, AllocError>
+    ensures { IfOk result (λ order. IsOrder names.now names.now order.items) }
+{
+    let mut order = Vec::with_capacity(alloc, names.len())?;
+    put_numbers(names, 0, &mut order);
+    Ok(order)
 }
 
 // As many slots without a pin.

@@ -1,13 +1,15 @@
 use Rattle.std.proofs.Common.{◌≡◌, ◌∙◌, ◌+◌, ◌*◌, ◌≤◌, List, ℕ, length, ◌++◌, ◌∷◌, [], sym, ap, subst, arith, rules}
 use Rattle.std.specs.Prelude.{vec_capacity}
 use Rattle.std.proofs.lemmas.Fn.{filter_same}
+use Rattle.std.proofs.lemmas.List.{length-append}
 use Rattle.shard_file.specs.Rows as shards
 use Rattle.closure_plan.specs.declared.need.Need.TheVariants as need
-use Rattle.closure_plan.specs.Plan.{Planned, its_pins, digest_of_need, has_need, without}
+use Rattle.closure_plan.specs.Owing.{Owes}
+use Rattle.closure_plan.specs.Plan.{Planned, its_pins, pins_of, digest_of_need, has_need, without}
 use Rattle.closure_request.specs.Slots.{slots}
 use Rattle.closure_plan.specs.Fresh.{IsOrder}
 use Rattle.closure_plan.specs.Ready.{IsReady}
-use Rattle.closure_plan.proofs.ReadyLemmas.{holds_ready, cells_ready, owing_ready, place_ready}
+use Rattle.closure_plan.proofs.ReadyLemmas.{holds_ready, cells_ready, order_ready, owing_ready, place_ready}
 use Rattle.closure_plan.proofs.plan.Plan.give_shard.Goals as goal
 
 pub index_mut-requires : goal.index_mut-requires
@@ -38,12 +40,17 @@ invariant_of-self-2 g c =
     = filter_same _ _ _ (λ x b f' k. search rules) _ _ c.retain.ensures.filtered ∙ ap (without (need.Shard c.args.slot c.args.n)) c.in_ok-reserve.ensures.items in
     let wide : ready.room ≤ vec_capacity c.retain.new.self = let a = c.in_ok-reserve.ensures.ok in let b = c.retain.ensures.capacity in omega (arith, a, b) in
     let place : c.place_of-place.result ≡ c.args.n * length (slots inside.sources.request) + c.args.slot = c.place_of-place.ensures ∙ ap (λ (s : Planned _ _). c.args.n * length (slots s.known.request) + c.args.slot) (sym c.self.view_is) in
-    let longer : (listed : List (List ℕ)) → IsOrder (inside.names.items ++ ready.fresh.items) listed inside.owing.items → IsOrder (inside.names.items ++ ready.fresh.items) (listed ++ ready.fresh.items) c.in_ok-owing.owing.items
-    = rw (c.deref.ensures.value, c.deref-2.ensures.value, c.deref-3.ensures.value) at c.in_ok-owing.ensures in
-    let count : c.len.result ≡ length inside.leaves.items = search rules in (
-      rw (names, leaves, marks) (holds_ready g.P.PinHolder.contents g.H.LeafHolder.contents _ _ _ c.self.invariant.0 c.args.slot c.args.n marked c.args.holder digest ready is_ready (vec_capacity c.retain.new.self) wide),
-      rw (names, leaves) (cells_ready g.P.PinHolder.contents g.H.LeafHolder.contents _ _ _ c.self.invariant.0 c.args.slot c.args.n marked c.args.holder digest ready is_ready inside.cells.items c.grow.new.cells.items c.self.invariant.1 c.grow.ensures.same c.in_ok-grow.ensures.wide c.place_of-place.result c.len.result place count),
-      rw (names, leaves) (owing_ready g.P.PinHolder.contents g.H.LeafHolder.contents _ _ _ c.self.invariant.0 c.args.slot c.args.n marked c.args.holder digest ready is_ready inside.owing.items c.in_ok-owing.owing.items c.self.invariant.2 longer),
+    let listed : c.len-listed.result ≡ length inside.names.items = search rules in
+    let put = rw (c.deref.ensures.value, names, listed, c.in_ok-reserve-3.ensures.items) at c.put_numbers.ensures in
+    let low : length inside.names.items ≤ length (inside.names.items ++ ready.fresh.items) = let l = length-append inside.names.items ready.fresh.items in omega (arith, l) in
+    let order : IsOrder (inside.names.items ++ ready.fresh.items) (inside.names.items ++ ready.fresh.items) c.put_numbers.new.order.items
+    = order_ready g.P.PinHolder.contents g.H.LeafHolder.contents _ _ _ c.self.invariant.0 c.args.slot c.args.n marked c.args.holder digest ready is_ready c.put_numbers.new.order.items (put low) in
+    let owes : Owes inside.sources.request (pins_of g.P.PinHolder.contents inside.sources.pins) (inside.names.items ++ ready.fresh.items) (length inside.names.items) (length (inside.names.items ++ ready.fresh.items)) inside.owing.items c.put_owed.new.owing.items
+    = rw (c.deref-2.ensures.value, names, listed, c.in_ok-reserve-4.ensures.items) at c.put_owed.ensures in
+    let count : c.len-3.result ≡ length inside.leaves.items = search rules in (
+      rw (names, leaves, marks) (holds_ready g.P.PinHolder.contents g.H.LeafHolder.contents _ _ _ c.self.invariant.0 c.args.slot c.args.n marked c.args.holder digest ready is_ready c.put_numbers.new.order.items (vec_capacity c.retain.new.self) order wide),
+      rw (names, leaves) (cells_ready g.P.PinHolder.contents g.H.LeafHolder.contents _ _ _ c.self.invariant.0 c.args.slot c.args.n marked c.args.holder digest ready is_ready inside.cells.items c.grow.new.cells.items c.self.invariant.1 c.grow.ensures.same c.in_ok-grow.ensures.wide c.place_of-place.result c.len-3.result place count),
+      rw (names, leaves) (owing_ready g.P.PinHolder.contents g.H.LeafHolder.contents _ _ _ c.self.invariant.0 c.args.slot c.args.n marked c.args.holder digest ready is_ready inside.owing.items c.put_owed.new.owing.items c.self.invariant.2 owes),
     )
 
 pub returns-clause-ok : goal.returns-clause-ok

@@ -16,7 +16,6 @@ use Rattle.closure_plan.specs.Start.{places_in, unpinned}
 use Rattle.closure_plan.proofs.SlotLemmas.{all_within, places_are, unpinned_length}
 use Rattle.closure_plan.specs.Plan.{pins_of}
 use Rattle.closure_plan.proofs.CellLemmas.{no_cells}
-use Rattle.closure_plan.proofs.OrderLemmas.{no_order}
 use Rattle.closure_plan.proofs.OwingLemmas.{owing_each}
 use Rattle.closure_plan.proofs.StartLemmas.{holds_new}
 use Rattle.closure_plan.proofs.plan.Plan.new.Goals as goal
@@ -57,8 +56,8 @@ invariant_of-result-2 g c =
     let grows = c.in_ok-names.ensures in
     let same : (q : List ℕ) → has_name names q ≡ has_name (root_names r) q = λ q. grows.members q ∙ ap (λ s. has_name (root_names_of s) q) (c.deref.ensures.value ∙ ap (λ (a : Asking). a.specs) c.request.view_is) in
     let distinct : IsDistinct is_name names = grows.distinct (IsDistinct-from_apart is_name [] (λ i j d l m. absurd (omega arith))) in
-    let order : IsOrder names names c.in_ok-order.order.items = subst (λ ns. IsOrder ns ns c.in_ok-order.order.items) c.deref-2.ensures.value (c.in_ok-order.ensures [] (no_order _)) in
-    let owing : IsOrder names names c.in_ok-owing.owing.items = subst (λ ns. IsOrder ns ns c.in_ok-owing.owing.items) c.deref-3.ensures.value (c.in_ok-owing.ensures [] (no_order _)) in
+    let order : IsOrder names names c.in_ok-order.order.items = subst (λ ns. IsOrder ns ns c.in_ok-order.order.items) c.deref-2.ensures.value c.in_ok-order.ensures in
+    let owing : IsOrder names names c.in_ok-owing.owing.items = subst (IsOrder names names) (sym (c.in_ok-owing.ensures.items ∙ c.deref-3.ensures.value)) order in
     let slots_count : c.len-4.result ≡ length (slots r) = let a = c.len-4.ensures in let b = c.in_ok-places.places.ok.0 in omega (arith, a, b, count) in
     let names_count : c.len-5.result + 0 ≡ length names = let a = c.len-5.ensures in let b = c.in_ok-names.names.ok.0 in omega (arith, a, b) in
     let room : vec_capacity c.in_ok-marks.marks ≡ (length names + 1) * length (slots r) = c.in_ok-marks.ensures.exact ∙ c.in_ok-room.ensures ∙ ap (λ n. (n + 1) * c.len-4.result) names_count ∙ ap (λ m. (length names + 1) * m) slots_count in

@@ -1,0 +1,10 @@
+pub mod AmongLemmas
+pub mod MarkLemmas
+pub mod WindowLemmas
+pub mod StandsLemmas
+pub mod NextLemmas
+pub mod ParcelLemmas
+pub mod DueLemmas
+pub mod TurnLemmas
+pub mod QueryLemmas
+pub mod HandLemmas

@@ -1,0 +1,14 @@
+pub mod Windows
+pub mod Dues
+pub mod Stands
+pub mod Queries
+pub mod Steps
+pub mod Sections
+pub use Rattle.flight_table.specs.Facts
+pub use Rattle.flight_table.specs.Follows
+pub use Rattle.flight_table.specs.Tells
+pub use Rattle.flight_table.specs.Doors
+pub use Rattle.query_needs.specs.Known
+pub use Rattle.query_needs.specs.Outcomes
+pub use Rattle.query_needs.specs.Takes
+pub use Rattle.query_needs.specs.Targets
