@@ -8,4 +8,7 @@ mod listener;
 mod socket;
 
 pub use listener::TcpAccept;
-pub use socket::{MOST_ANSWER_SECONDS, MOST_HEAD_SECONDS, MOST_IDLE_SECONDS, MOST_STALLED_TICKS, Socket, TICK_MILLISECONDS};
+pub use socket::{
+    MOST_ANSWER_SECONDS, MOST_HEAD_SECONDS, MOST_IDLE_SECONDS, MOST_STALLED_TICKS, Socket,
+    TICK_MILLISECONDS,
+};

@@ -84,7 +84,8 @@ impl<R: Net<Listener = TcpListener, Stream = TcpStream> + Clock + Copy + Drop> T
     }
 }
 
-impl<R: Net<Listener = TcpListener, Stream = TcpStream> + Clock + Copy + Drop> Accept for TcpAccept<R> {
+impl<R: Net<Listener = TcpListener, Stream = TcpStream> + Clock + Copy + Drop> Accept
+    for TcpAccept<R> {
     type Stream = Socket<R>;
 
     ghost accepted = { accepted_count };
