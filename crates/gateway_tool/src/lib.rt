@@ -24,6 +24,6 @@ pub use note::Note;
 pub use serve::run_serve;
 pub use show::run_show;
 pub use status::{
-    BAD_FILE, LISTEN_FAULT, NOT_ANSWERED, OK, OUT_OF_MEMORY, READ_FAULT, STORE_FAULT, TOO_MUCH_INPUT, USAGE,
-    WRITE_FAULT, status_line,
+    BAD_FILE, LISTEN_FAULT, NOT_ANSWERED, OK, OUT_OF_MEMORY, READ_FAULT, STORE_FAULT,
+    TOO_MUCH_INPUT, USAGE, WRITE_FAULT, status_line,
 };

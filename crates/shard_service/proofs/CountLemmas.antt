@@ -27,5 +27,6 @@ stepped (Some most) left left' a b c f g h so some more later less = record {
   where
     room : (n k : ℕ) → k ≤ n → (n - k ≡ 0 → ⊥) → suc k ≤ n
     room n k le more = omega (arith, le, more)
+
     lower : (n k : ℕ) → (n - k) - 1 ≡ n - suc k
     lower n k = omega arith

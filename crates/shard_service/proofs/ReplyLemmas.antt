@@ -18,4 +18,4 @@ pub called : {E : Type 0} (given : Option (Result (Response (Full (List ℕ))) E
     → IsSomeAnd given (λ answer. IsOkAnd answer (Replies method path))
 called given response method shown path read given_is method_is path_is replies =
     subst (λ g. IsSomeAnd g (λ answer. IsOkAnd answer (Replies method path))) (sym given_is)
-      (subst (λ m. Replies m path response) method_is (subst (λ p. Replies shown p response) path_is replies))
+    (subst (λ m. Replies m path response) method_is (subst (λ p. Replies shown p response) path_is replies))

@@ -56,8 +56,7 @@ impl<S: Store + Drop, I: Drop, R: Wait + Drop> Answering<S, I, R> {
 }
 
 impl<S: Store + Drop, I: Drop, R: Wait + Drop> Service<Request<Incoming<I>>>
-    for Answering<S, I, R>
-{
+    for Answering<S, I, R> {
     type Response = Response<Full<Bytes>>;
 
     type Error = Infallible;

@@ -11,4 +11,4 @@ loop-preserved g c =
     let some : c.loop.left ≢ Some 0 = search rules in
     let more : accepted c.accept_one.new.accept ≡ one_more (accepted c.loop.accept) = search rules in
     stepped c.args.limit c.loop.left c.one_less-left.result (accepted c.args.accept.now) (accepted c.loop.accept) (accepted c.accept_one.new.accept)
-      (faults c.args.accept.now) (faults c.loop.accept) (faults c.accept_one.new.accept) c.loop.invariant some more c.accept_one.ensures.later c.one_less-left.ensures
+    (faults c.args.accept.now) (faults c.loop.accept) (faults c.accept_one.new.accept) c.loop.invariant some more c.accept_one.ensures.later c.one_less-left.ensures

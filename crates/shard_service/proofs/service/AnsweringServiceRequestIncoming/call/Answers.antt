@@ -7,4 +7,4 @@ use Rattle.shard_service.proofs.service.AnsweringServiceRequestIncoming.call.Goa
 pub returns-clause-called : goal.returns-clause-called
 returns-clause-called g c =
     called c.ok.result.0 c.respond.result (head_of c.args.req).method c.as_str.result.now (uri_path (head_of c.args.req).uri) c.path-path.result.now
-      c.ok.ensures (c.as_str.ensures.value ∙ c.method-method.ensures) (c.path-path.ensures.value ∙ ap uri_path c.uri.ensures) c.respond.ensures
+    c.ok.ensures (c.as_str.ensures.value ∙ c.method-method.ensures) (c.path-path.ensures.value ∙ ap uri_path c.uri.ensures) c.respond.ensures
