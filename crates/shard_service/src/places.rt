@@ -8,7 +8,7 @@ use std::time::{Clock, Duration};
 /// How many connections are served at once, and so how many threads there are at most.
 pub const MOST_PLACES: usize = 64;
 
-/// How long a thread waits for a connection before it ends and gives its memory back, in seconds.
+/// How long a thread waits for a connection before it ends and gives its stack back, in seconds.
 pub const MOST_FREE_SECONDS: u64 = 10;
 
 // Connections that wait for a thread, threads that wait for a connection, and the seats of threads that ended.
