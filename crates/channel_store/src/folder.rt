@@ -87,20 +87,22 @@ impl<R: Files<File = File> + Drop> Store for FolderStore<R> {
 }
 
 // The bytes of a file; of one that is too long, no more than one byte behind the limit is read. What is
-// no plain file is not opened, since that can wait for another program.
+// no plain file is not opened, since that can wait for another program. Room is made at once, for the file
+// and for a byte behind it, so that most files are there after one read, and their end after a second.
 fn read<R: Files>(rt: &R, alloc: Global, name: &str, limit: u64) -> io::Result<Got> {
-    match fs::metadata(rt, name) {
-        Ok(found) if found.is_file() => {}
+    let size = match fs::metadata(rt, name) {
+        Ok(found) if found.is_file() => found.len(),
         Ok(_) => return Err(io::Error::from(ErrorKind::InvalidInput)),
         Err(error) if error.kind() == ErrorKind::NotFound => return Ok(Got::Absent),
         Err(error) => return Err(error),
-    }
+    };
     let file = match fs::open(rt, name) {
         Ok(file) => file,
         Err(error) if error.kind() == ErrorKind::NotFound => return Ok(Got::Absent),
         Err(error) => return Err(error),
     };
     let mut bytes = Vec::new(alloc);
+    bytes.reserve(size.min(limit).saturating_add(1) as usize)?;
     file.take(limit.saturating_add(1)).read_to_end(&mut bytes)?;
     if bytes.len() as u64 > limit {
         return Ok(Got::Long);

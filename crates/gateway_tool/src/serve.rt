@@ -12,6 +12,7 @@ use std::alloc::{AllocGlobal, Global};
 use std::random::RandomSource;
 use std::sync::Wait;
 use std::thread::Threads;
+use std::time::Clock;
 
 /// Serves the indexes and the shards of a store by the words `serve` and an address, as
 /// `127.0.0.1:8000`, and where it is there `--connections=n`: so many connections, else without end.
@@ -23,7 +24,7 @@ use std::thread::Threads;
 /// memory ran out before the first connection. (`docs/FORMATS.md`, "Served paths" and "Statuses".)
 pub fn run_serve<R, S, A>(rt: &R, alloc: Global, words: &[Text], store: S, accept: &mut A) -> u8
 where
-    R: Wait + Threads + RandomSource + AllocGlobal + Copy + Send + Sync + Drop + 'static,
+    R: Wait + Threads + RandomSource + AllocGlobal + Clock + Copy + Send + Sync + Drop + 'static,
     S: Store + Send + Drop + 'static,
     A: Accept,
     A::Stream: Send + 'static,
@@ -41,7 +42,7 @@ where
 #[tactic(auto, using(crate::proofs::ServeLemmas::ended_so, crate::proofs::ServeLemmas::never_begun))]
 fn serve<R, S, A>(rt: &R, alloc: Global, asking: Asking<'_>, store: S, accept: &mut A) -> u8
 where
-    R: Wait + Threads + RandomSource + AllocGlobal + Copy + Send + Sync + Drop + 'static,
+    R: Wait + Threads + RandomSource + AllocGlobal + Clock + Copy + Send + Sync + Drop + 'static,
     S: Store + Send + Drop + 'static,
     A: Accept,
     A::Stream: Send + 'static,

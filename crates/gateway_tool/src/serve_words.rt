@@ -4,11 +4,11 @@ ghost use Rattle.std.specs.Option.{option_copied, option_map};
 ghost use Rattle.gateway_tool.specs.Asking.{wanted_in};
 ghost use Rattle.gateway_tool.specs.Serve.{addr_word, connections_word, count_of, count_within, has_leading_zero, serve_words, served_words, wanted_by};
 ghost use Rattle.byte_text.specs.Decimal.{decimal_from};
-ghost use Rattle.store_closure.specs.Options.{option_of, value_of};
 
 use crate::words::is_option;
 use byte_text::{are_digits, decimal};
 use mp_codec::Text;
+use store_closure::{option_of, value_of};
 
 // The most bytes of an address.
 const MOST_ADDRESS_BYTES: usize = 255;
@@ -129,24 +129,4 @@ fn has_leading_zero(text: &str) -> bool
     ensures { result ≡ has_leading_zero text.now }
 {
     text.starts_with('0')
-}
-
-// The option of a word: what stands before its first `=`.
-fn option_of(word: &str) -> &str
-    ensures { result.now ≡ option_of word.now }
-{
-    match word.split_once('=') {
-        Some((option, _)) => option,
-        None => word,
-    }
-}
-
-// The value of a word: what stands behind its first `=`.
-fn value_of(word: &str) -> &str
-    ensures { result.now ≡ value_of word.now }
-{
-    match word.split_once('=') {
-        Some((_, value)) => value,
-        None => "",
-    }
 }

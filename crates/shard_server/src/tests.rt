@@ -94,6 +94,21 @@ fn store(alloc: Global, fails_from: Option<u64>) -> Result<MemStore, Fail> {
     Ok(MemStore::new(alloc, files, Vec::new(alloc), fails_from))
 }
 
+// So many letters.
+fn letters(alloc: Global, count: usize) -> Result<String, Fail> {
+    let mut text = String::new(alloc);
+    for _ in 0..count {
+        text.push('a')?;
+    }
+    Ok(text)
+}
+
+// The name of the index of a channel with so many letters.
+fn index_of(alloc: Global, count: usize) -> Result<String, Fail> {
+    let channel = letters(alloc, count)?;
+    Ok(format!(in alloc; "{channel}/noarch/repodata_shards.msgpack")?)
+}
+
 // Whether an answer has this status, this body and this size.
 fn is_answer(served: &Served, status: u16, body: &[u8], size: u64) -> bool {
     served.status == status && served.body.as_slice() == body && served.size == size
@@ -119,6 +134,27 @@ fn hostile_paths_name_no_file(rt: HostRuntime) -> Result<(), Fail> {
             is_refused(rt.alloc(), &mut store, "GET", path, 404)?,
             "{path}"
         );
+    }
+    Ok(())
+}
+
+#[test]
+fn a_name_has_64_letters_at_most(rt: HostRuntime) -> Result<(), Fail> {
+    let alloc = rt.alloc();
+    let mut files = Vec::new(alloc);
+    for count in [64, 65] {
+        let name = index_of(alloc, count)?;
+        files.push((Text::copy(alloc, &name)?, b"index".as_slice().to_vec(alloc)?))?;
+    }
+    let mut store = MemStore::new(alloc, files, Vec::new(alloc), None);
+    let path = format!(in alloc; "/{}", index_of(alloc, 64)?)?;
+    let served = answer(alloc, &mut store, "GET", &path)?;
+    assert!(rt; is_answer(&served, 200, b"index", 5));
+    for path in [
+        format!(in alloc; "/{}", index_of(alloc, 65)?)?,
+        format!(in alloc; "/{}", letters(alloc, 60_000)?)?,
+    ] {
+        assert!(rt; is_refused(alloc, &mut store, "GET", &path, 404)?);
     }
     Ok(())
 }

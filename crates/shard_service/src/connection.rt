@@ -11,6 +11,10 @@ use std::random::RandomSource;
 use std::sync::{Arc, Wait};
 use tokio::io::{AsyncRead, AsyncWrite};
 
+// How much of a connection's requests, and of its answers beside a file, is buffered: the longest head
+// that hyper takes. More would let a client that reads nothing fill more memory.
+const MOST_BUFFERED_BYTES: usize = 64 * 1024;
+
 // What serves connections, one after another.
 #[derive(Drop)]
 pub(crate) struct Server<S, I, R> {
@@ -46,7 +50,7 @@ where
                 alloc: self.alloc,
             };
             let mut http = Builder::new(self.alloc, self.keys);
-            http.half_close(true);
+            http.half_close(true).max_buf_size(MOST_BUFFERED_BYTES);
             let _ = block_on_queue(&self.rt, queue, http.serve_connection(io, service));
         }
         self.shared.places.give(&self.rt);

@@ -14,5 +14,5 @@ mod serve;
 mod service;
 
 pub use accept::{Accept, Failed};
-pub use places::MOST_PLACES;
+pub use places::{MOST_FREE_SECONDS, MOST_PLACES};
 pub use serve::{ServeEnd, serve_loop};

@@ -2,16 +2,21 @@
 
 use std::alloc::{AllocError, Global};
 use std::sync::atomic::{AtomicUsize, Ordering};
-use std::sync::{Condvar, Mutex, Wait};
+use std::sync::{Condvar, CondvarTimeouts, Mutex, Wait};
+use std::time::{Clock, Duration};
 
-/// How many connections are served at once, and so how many threads there are.
+/// How many connections are served at once, and so how many threads there are at most.
 pub const MOST_PLACES: usize = 64;
 
-// Connections that wait for a thread, and threads that wait for a connection.
+/// How long a thread waits for a connection before it ends and gives its stack back, in seconds.
+pub const MOST_FREE_SECONDS: u64 = 10;
+
+// Connections that wait for a thread, threads that wait for a connection, and the seats of threads that ended.
 #[derive(Drop)]
 struct Desk<I> {
     waiting: Vec<I>,
     free: usize,
+    left: Vec<usize>,
     closed: bool,
 }
 
@@ -25,14 +30,17 @@ pub(crate) struct Places<I> {
 }
 
 impl<I: Drop> Places<I> {
-    // All places, free, with room for each connection that may wait.
+    // All places, free, with room for each connection that may wait and for each thread that may end.
     pub(crate) fn new(alloc: Global) -> Result<Places<I>, AllocError> {
         let mut waiting = Vec::new(alloc);
         waiting.reserve(MOST_PLACES)?;
+        let mut left = Vec::new(alloc);
+        left.reserve(MOST_PLACES)?;
         Ok(Places {
             desk: Mutex::new(Desk {
                 waiting,
                 free: 0,
+                left,
                 closed: false,
             }),
             came: Condvar::new(),
@@ -82,15 +90,26 @@ impl<I: Drop> Places<I> {
         self.desk.lock(rt).waiting.pop()
     }
 
-    // Waits for a connection; none comes once the desk is closed and empty.
-    pub(crate) fn next<R: Wait>(&self, rt: &R) -> Option<I> {
+    // Waits for a connection, for the thread at a seat. None comes once the desk is closed and empty, or
+    // where the thread has waited for long; it leaves its seat then.
+    pub(crate) fn next<R: Wait + Clock>(&self, rt: &R, seat: usize) -> Option<I> {
         let mut desk = self.desk.lock(rt);
         desk.free = desk.free.saturating_add(1);
-        let mut desk = self.came.wait_while(rt, desk, |desk| {
+        let most = Duration::from_secs(MOST_FREE_SECONDS);
+        let (mut desk, _) = self.came.wait_timeout_while(rt, desk, most, |desk| {
             desk.waiting.is_empty() && !desk.closed
         });
         desk.free = desk.free.saturating_sub(1);
-        desk.waiting.pop()
+        let next = desk.waiting.pop();
+        if next.is_none() {
+            let _ = desk.left.push(seat);
+        }
+        next
+    }
+
+    // A seat that its thread left, if there is one.
+    pub(crate) fn left<R: Wait>(&self, rt: &R) -> Option<usize> {
+        self.desk.lock(rt).left.pop()
     }
 
     // No more connections come.

@@ -16,6 +16,7 @@ use std::random::RandomSource;
 use std::sync::{Arc, Mutex, Wait};
 use std::thread;
 use std::thread::{JoinHandle, Threads};
+use std::time::Clock;
 use tokio::io::{AsyncRead, AsyncWrite};
 
 /// How serving ended.
@@ -42,7 +43,7 @@ pub fn serve_loop<R, S, A>(
     limit: Option<u64>,
 ) -> ServeEnd
 where
-    R: Wait + Threads + RandomSource + AllocGlobal + Copy + Send + Sync + Drop + 'static,
+    R: Wait + Threads + RandomSource + AllocGlobal + Clock + Copy + Send + Sync + Drop + 'static,
     S: Store + Send + Drop + 'static,
     A: Accept,
     A::Stream: Send + 'static,
@@ -60,17 +61,17 @@ where
     how
 }
 
-// The threads that serve connections, and what serves on the calling thread where none can be made.
+// The threads that serve connections, each at its seat, and what serves on the calling thread where none can be made.
 #[derive(Drop)]
 struct Crew<S, I, R> {
     server: Server<S, I, R>,
     queue: Queue,
-    running: Vec<JoinHandle<()>>,
+    seats: Vec<Option<JoinHandle<()>>>,
 }
 
 impl<S, I, R> Crew<S, I, R>
 where
-    R: Wait + Threads + RandomSource + AllocGlobal + Copy + Send + Sync + Drop + 'static,
+    R: Wait + Threads + RandomSource + AllocGlobal + Clock + Copy + Send + Sync + Drop + 'static,
     S: Store + Send + Drop + 'static,
     I: AsyncRead + AsyncWrite + Send + 'static,
 {
@@ -78,8 +79,11 @@ where
     fn new(rt: &R, alloc: Global, store: S) -> Result<Self, AllocError> {
         let keys = RandomState::new(rt).map_err(|_| AllocError)?;
         let queue = Queue::new(rt, Doorbell::parking()).map_err(|_| AllocError)?;
-        let mut running = Vec::new(alloc);
-        running.reserve(MOST_PLACES)?;
+        let mut seats = Vec::new(alloc);
+        seats.reserve(MOST_PLACES)?;
+        for _ in 0..MOST_PLACES {
+            seats.push(None)?;
+        }
         let shared = Shared {
             store: Mutex::new(store),
             places: Places::new(alloc)?,
@@ -93,7 +97,7 @@ where
         Ok(Crew {
             server,
             queue,
-            running,
+            seats,
         })
     }
 
@@ -109,21 +113,38 @@ where
     // Makes a thread for the connection that waits, unless there are all; where none can be made,
     // this thread serves it.
     fn hire(&mut self, rt: &R) {
-        if self.running.len() >= MOST_PLACES {
+        self.join_left(rt);
+        let Some(seat) = self.seats.iter().position(|seat| seat.is_none()) else {
             return;
-        }
-        match self.hired(rt) {
-            Ok(child) => {
-                let _ = self.running.push(child);
-            }
+        };
+        match self.hired(rt, seat) {
+            Ok(child) => self.seat(seat, child),
             Err(_) => self.serve_here(rt),
         }
     }
 
-    fn hired(&self, rt: &R) -> Result<JoinHandle<()>, AllocError> {
+    // Joins the threads that ended.
+    fn join_left(&mut self, rt: &R) {
+        for _ in 0..MOST_PLACES {
+            let Some(seat) = self.server.shared.places.left(rt) else {
+                return;
+            };
+            if let Some(child) = self.seats.get_mut(seat).and_then(|seat| seat.take()) {
+                child.join(rt);
+            }
+        }
+    }
+
+    fn seat(&mut self, seat: usize, child: JoinHandle<()>) {
+        if let Some(place) = self.seats.get_mut(seat) {
+            *place = Some(child);
+        }
+    }
+
+    fn hired(&self, rt: &R, seat: usize) -> Result<JoinHandle<()>, AllocError> {
         let queue = Queue::new(rt, Doorbell::parking()).map_err(|_| AllocError)?;
         let server = self.server.share()?;
-        thread::spawn(rt, move || serve_all(server, queue)).map_err(|_| AllocError)
+        thread::spawn(rt, move || serve_all(server, queue, seat)).map_err(|_| AllocError)
     }
 
     // Serves a connection that waits on this thread.
@@ -138,25 +159,27 @@ where
         let Crew {
             server,
             queue: _,
-            running,
+            seats,
         } = self;
         server.shared.places.close(rt);
-        for child in running {
-            child.join(rt);
+        for seat in seats {
+            if let Some(child) = seat {
+                child.join(rt);
+            }
         }
     }
 }
 
-// Serves one connection after another, until no more come.
-fn serve_all<S, I, R>(server: Server<S, I, R>, queue: Queue)
+// Serves one connection after another at a seat, until no more come.
+fn serve_all<S, I, R>(server: Server<S, I, R>, queue: Queue, seat: usize)
 where
-    R: Wait + RandomSource + AllocGlobal + Copy + Drop,
+    R: Wait + RandomSource + AllocGlobal + Clock + Copy + Drop,
     S: Store + Drop,
     I: AsyncRead + AsyncWrite,
 {
     let rt = server.rt;
     for _ in rt.forever() {
-        let Some(io) = server.shared.places.next(&rt) else {
+        let Some(io) = server.shared.places.next(&rt, seat) else {
             return;
         };
         server.serve(&queue, io);
@@ -171,7 +194,7 @@ fn accept_all<R, S, A>(
     limit: Option<u64>,
 ) -> ServeEnd
 where
-    R: Wait + Threads + RandomSource + AllocGlobal + Copy + Send + Sync + Drop + 'static,
+    R: Wait + Threads + RandomSource + AllocGlobal + Clock + Copy + Send + Sync + Drop + 'static,
     S: Store + Send + Drop + 'static,
     A: Accept,
     A::Stream: Send + 'static,
@@ -198,7 +221,7 @@ fn accept_one<R, S, A>(
     accept: &mut A,
 ) -> Result<(), Failed>
 where
-    R: Wait + Threads + RandomSource + AllocGlobal + Copy + Send + Sync + Drop + 'static,
+    R: Wait + Threads + RandomSource + AllocGlobal + Clock + Copy + Send + Sync + Drop + 'static,
     S: Store + Send + Drop + 'static,
     A: Accept,
     A::Stream: Send + 'static,

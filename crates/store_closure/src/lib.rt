@@ -25,4 +25,4 @@ pub use lines::has_more_lines;
 pub use places::{ChannelName, StorePlace, SubdirName, places_of};
 pub use run::closure_over;
 pub use stop::{BadFile, FileWhy, Stop};
-pub use words::{OptionsRefusal, closure_words};
+pub use words::{OptionsRefusal, closure_words, option_of, value_of};

@@ -233,8 +233,8 @@ impl Met {
     }
 }
 
-// The option of a word.
-fn option_of(word: &str) -> &str
+/// The option of a word: what stands before its first `=`.
+pub fn option_of(word: &str) -> &str
     ensures { result.now ≡ option_of word.now }
 {
     match word.split_once('=') {
@@ -243,8 +243,8 @@ fn option_of(word: &str) -> &str
     }
 }
 
-// The value of a word.
-fn value_of(word: &str) -> &str
+/// The value of a word: what stands behind its first `=`.
+pub fn value_of(word: &str) -> &str
     ensures { result.now ≡ value_of word.now }
 {
     match word.split_once('=') {

@@ -12,6 +12,7 @@ use std::random::RandomSource;
 use std::sync::Wait;
 use std::test::Fail;
 use std::thread::Threads;
+use std::time::Clock;
 use tokio::io::{AsyncRead, AsyncWrite};
 
 // A connection whose client has closed it.
@@ -114,7 +115,7 @@ const ROWS: [(&str, u8, u64); 9] = [
 // The status of the words of a row, and how many connections were accepted.
 fn outcome<R>(rt: &R, row: &str) -> Result<(u8, u64), Fail>
 where
-    R: Wait + Threads + RandomSource + AllocGlobal + Copy + Send + Sync + Drop + 'static,
+    R: Wait + Threads + RandomSource + AllocGlobal + Clock + Copy + Send + Sync + Drop + 'static,
 {
     let mut words = Vec::new(rt.alloc());
     for word in row.split(' ') {

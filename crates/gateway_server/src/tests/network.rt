@@ -50,8 +50,8 @@ const ROWS: [&str; 26] = [
     "GET /x HTTP/1.1\r\nHost: h\r\n\r\nGET /c/noarch/repodata_shards.msgpack HTTP/1.1\r\nHost: h\r\nConnection: close\r\n\r\n => 404 => \r\n\r\nindex",
 ];
 
-// How many connections the rows are.
-const CONNECTIONS: u64 = 26;
+// How many connections the rows and the long path are.
+const CONNECTIONS: u64 = 27;
 
 // A store of an index, a shard and a `repodata.json` of one place.
 fn store(alloc: Global) -> Result<MemStore, Fail> {
@@ -115,6 +115,15 @@ fn is_true(rt: &HostRuntime, port: u16, row: &str) -> Result<bool, Fail> {
     Ok(is_reply(&heard, begin, end))
 }
 
+// The row of a path of 60,000 bytes.
+fn long_row(alloc: Global) -> Result<String, Fail> {
+    let mut path = String::new(alloc);
+    for _ in 1..60_000 {
+        path.push('a')?;
+    }
+    Ok(format!(in alloc; "GET /{path} HTTP/1.1\r\nHost: h\r\n\r\n => 404 => \r\n\r\n")?)
+}
+
 #[test]
 fn each_connection_is_served(rt: HostRuntime) -> Result<(), Fail> {
     let mut accept = TcpAccept::new(rt);
@@ -129,6 +138,7 @@ fn each_connection_is_served(rt: HostRuntime) -> Result<(), Fail> {
     for row in ROWS {
         assert!(rt; is_true(&rt, port, row)?, "{row}");
     }
+    assert!(rt; is_true(&rt, port, &long_row(rt.alloc())?)?);
     assert!(rt; server.join(&rt) == ServeEnd::Limit);
     Ok(())
 }
