@@ -1,9 +1,10 @@
 -- Names that are added, one after another.
 use Rattle.std.proofs.Common.{◌≡◌, ℕ, zero, suc, ◌+◌, ◌<◌, arith, Bool, true, false, cond, ◌||◌, ◌&&◌, ◌==◌, List, [], ◌∷◌, ◌++◌, length, map, take, refl, sym, ap, subst, ◌∙◌, true≢false, append_assoc, filter, flat_map, Option, Some, None}
+use Rattle.std.specs.Borrow.{Bor}
 use Rattle.std.specs.Char.{to_ascii_lowercase}
 use Rattle.std.specs.Cmp.{unsigned_Decides}
-use Rattle.std.specs.List.{IsDistinct, AllByRecursion, list_all, slice_get, slice_index_or}
-use Rattle.std.proofs.lemmas.List.{take_more}
+use Rattle.std.specs.List.{IsDistinct, AllByRecursion, list_all, list_any, slice_get, slice_index_or}
+use Rattle.std.proofs.lemmas.List.{map-append, take_more}
 use Rattle.std.proofs.lemmas.List.Elements.{filter-append}
 use Rattle.std.proofs.lemmas.List.Concat.{flat_map-append}
 use Rattle.std.proofs.lemmas.List.Folds.{list_any-append}
@@ -11,7 +12,7 @@ use Rattle.std.proofs.lemmas.Option.{slice_get-get_or}
 use Rattle.std.specs.List.Sorted.{IsPermutation}
 use Rattle.std.proofs.lemmas.List.Sorted.{IsPermutation-append_comm, IsPermutation-append_left, list_any-IsPermutation}
 use Rattle.std.proofs.lemmas.Map.Keys.{IsDistinct-head, IsDistinct-tail, IsDistinct-cons, IsDistinct-IsPermutation}
-use Rattle.std.specs.Option.{IfSome, option_map}
+use Rattle.std.specs.Option.{IfSome, option_copied, option_map, option_to_list}
 use Rattle.mp_codec.proofs.KeyLemmas.{same_bytes}
 use Rattle.shard_file.specs.Rows.{Row}
 use Rattle.conda_name.specs.Name.{lower_case}
@@ -133,6 +134,48 @@ known_text (Some v) f names fresh i text h e = record {
   ] refl;
   distinct = λ d. d;
 }
+
+-- a name that one of some texts is about
+any_led : (f : Name → List Name) (q : Name) (xs : List Name) → has_name (flat_map f xs) q ≡ list_any (λ x. has_name (f x) q) xs
+any_led f q [] = refl
+any_led f q (x ∷ xs) = list_any-append (is_name q) (f x) (flat_map f xs) ∙ ap (λ b. has_name (f x) q || b) (any_led f q xs)
+
+-- the texts in another order
+pub grows_by_texts : (names old new texts turned : List Name) → IsPermutation texts turned → Grows names old new (flat_map names_of_text turned) → Grows names old new (flat_map names_of_text texts)
+grows_by_texts names old new texts turned p g = record {
+  members = λ q. g.members q ∙ ap (λ b. has_name (names ++ old) q || b)
+      (any_led names_of_text q turned ∙ sym (list_any-IsPermutation (λ t. has_name (names_of_text t) q) texts turned p) ∙ sym (any_led names_of_text q texts));
+  distinct = g.distinct;
+}
+
+-- ---- texts that are taken one by one
+
+texts_taken : (texts : List (List ℕ)) (i : ℕ) → i < length texts → take (i + 1) texts ≡ take i texts ++ option_to_list (slice_get texts i)
+texts_taken texts i l = take_more texts i [] l ∙ ap (λ o. take i texts ++ option_to_list o) (sym (slice_get-get_or texts i [] l))
+
+copied_list : (o : Option (Bor (List ℕ))) → map (λ t. t.now) (option_to_list o) ≡ option_to_list (option_copied o)
+copied_list None = refl
+copied_list (Some t) = refl
+
+-- a text more of all texts
+pub text_more : (old new : List (Bor (List ℕ))) (o : Option (Bor (List ℕ))) (all : List (List ℕ)) (i : ℕ) → i < length all
+    → map (λ t. t.now) old ≡ take i all → option_copied o ≡ slice_get all i → new ≡ old ++ option_to_list o → map (λ t. t.now) new ≡ take (i + 1) all
+text_more old new o all i l so there is =
+    ap (map (λ t. t.now)) is ∙ map-append (λ t. t.now) old (option_to_list o) ∙ ap (λ (xs : List (List ℕ)). xs ++ map (λ t. t.now) (option_to_list o)) so
+    ∙ ap (λ (xs : List (List ℕ)). take i all ++ xs) (copied_list o ∙ ap option_to_list there) ∙ sym (texts_taken all i l)
+
+none_behind : (xs : List Name) → xs ++ [] ≡ xs
+none_behind [] = refl
+none_behind (x ∷ xs) = ap (λ ys. x ∷ ys) (none_behind xs)
+
+-- the names of a text more
+pub led_more : (texts : List (Bor (List ℕ))) (i : ℕ) (d : Bor (List ℕ)) → i < length texts
+    → flat_map names_of_text (map (λ t. t.now) (take (i + 1) texts)) ≡ flat_map names_of_text (map (λ t. t.now) (take i texts)) ++ names_of_text (slice_index_or texts i d).now
+led_more texts i d l =
+    ap (λ (ts : List (Bor (List ℕ))). flat_map names_of_text (map (λ t. t.now) ts)) (take_more texts i d l)
+    ∙ ap (flat_map names_of_text) (map-append (λ t. t.now) (take i texts) (slice_index_or texts i d ∷ []))
+    ∙ flat_map-append names_of_text (map (λ t. t.now) (take i texts)) ((slice_index_or texts i d).now ∷ [])
+    ∙ ap (λ ys. flat_map names_of_text (map (λ t. t.now) (take i texts)) ++ ys) (none_behind (names_of_text (slice_index_or texts i d).now))
 
 -- ---- loops
 

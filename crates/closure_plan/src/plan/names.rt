@@ -1,9 +1,10 @@
 //! The names that a shard reaches.
 
-ghost use Rattle.std.specs.Prelude.{◌≡◌, ◌==◌, ◌||◌, ◌∷◌, [], Ok, slice_get, IfOk, IfSome, OnOk};
+ghost use Rattle.std.specs.Prelude.{◌≡◌, ◌==◌, ◌||◌, ◌++◌, ◌∷◌, [], Ok, map, slice_get, IfOk, IfSome, OnOk};
 ghost use Rattle.std.specs.List.{filter, flat_map, list_all};
+ghost use Rattle.std.specs.List.Sorted.{IsPermutation};
 ghost use Rattle.std.specs.Char.{to_ascii_lowercase};
-ghost use Rattle.std.specs.Option.{option_map};
+ghost use Rattle.std.specs.Option.{option_map, option_to_list};
 ghost use Rattle.conda_name.specs.Name.{lower_case, name_of};
 ghost use Rattle.conda_record.specs.View.{seen};
 ghost use Rattle.shard_file.specs.Seen.{row_seen};
@@ -20,6 +21,9 @@ use conda_name::{Name, dependency_name};
 use conda_record::RecordView;
 use shard_file::{Shard, ShardRow};
 use std::alloc::{AllocError, Global};
+
+// The most texts of a record that are taken as they stand.
+const FEW_TEXTS: usize = 64;
 
 impl<P: PinHolder, H: LeafHolder> Plan<P, H> {
     // The names that a shard reaches and that aren't listed.
@@ -99,8 +103,47 @@ impl<P: PinHolder, H: LeafHolder> Plan<P, H> {
         ensures { OnOk result (Grows self.now.known.names fresh.old fresh.new
             (flat_map names_of_text (seen view.entry).depends)) }
     {
+        if view.depends_len() <= FEW_TEXTS {
+            return self.add_few(view, before, fresh);
+        }
+        self.add_many(view, fresh)
+    }
+
+    // The same, text by text as they stand.
+    fn add_few(
+        &self,
+        view: RecordView<'_>,
+        before: Option<RecordView<'_>>,
+        fresh: &mut Listing,
+    ) -> Result<(), AllocError>
+        requires { IfSome before (λ v. AreThere self.now.known.names fresh.old
+            (flat_map names_of_text (seen v).depends)) }
+        ensures { OnOk result (Grows self.now.known.names fresh.old fresh.new
+            (flat_map names_of_text (seen view.entry).depends)) }
+    {
         for i in 0..view.depends_len() {
             self.add_at(view, before, i, fresh)?;
+        }
+        Ok(())
+    }
+
+    // The same in the order of the texts: so a new name goes behind those that were added before it, or
+    // near their end, and no name is moved many times.
+    fn add_many(&self, view: RecordView<'_>, fresh: &mut Listing) -> Result<(), AllocError>
+        ensures { OnOk result (Grows self.now.known.names fresh.old fresh.new
+            (flat_map names_of_text (seen view.entry).depends)) }
+    {
+        let texts = sorted_texts(*self.names.allocator(), view)?;
+        self.add_texts(&texts, fresh)
+    }
+
+    // Adds the names that texts are about.
+    fn add_texts(&self, texts: &[&str], fresh: &mut Listing) -> Result<(), AllocError>
+        ensures { OnOk result (Grows self.now.known.names fresh.old fresh.new
+            (flat_map names_of_text (map (λ t. t.now) texts.now))) }
+    {
+        for text in texts {
+            self.add_text(text, fresh)?;
         }
         Ok(())
     }
@@ -201,6 +244,40 @@ impl<P: PinHolder, H: LeafHolder> Plan<P, H> {
             name.now) }
     {
         search(&self.names, &self.order, name.as_bytes()).is_ok() || others.has(name)
+    }
+}
+
+// The `depends` of a record, in the order of the texts.
+fn sorted_texts<'a>(alloc: Global, view: RecordView<'a>) -> Result<Vec<&'a str>, AllocError>
+    ensures { IfOk result (λ texts. IsPermutation (seen view.entry).depends (map (λ t. t.now)
+        texts.items)) }
+{
+    let mut texts = texts_of(alloc, view)?;
+    texts.sort_unstable();
+    Ok(texts)
+}
+
+// The `depends` of a record, as they stand.
+fn texts_of<'a>(alloc: Global, view: RecordView<'a>) -> Result<Vec<&'a str>, AllocError>
+    ensures { IfOk result (λ texts. map (λ t. t.now) texts.items ≡ (seen view.entry).depends) }
+{
+    let mut texts = Vec::with_capacity(alloc, view.depends_len())?;
+    for i in 0..view.depends_len() {
+        push_if(view.depend(i), &mut texts)?;
+    }
+    Ok(texts)
+}
+
+// Adds a text behind others, where there is one.
+fn push_if<'a>(text: Option<&'a str>, texts: &mut Vec<&'a str>) -> Result<(), AllocError>
+    ensures { OnOk result (texts.new.items ≡ texts.old.items ++ option_to_list text.entry) }
+{
+    match text {
+        Some(text) => {
+            texts.push(text)?;
+            Ok(())
+        }
+        None => Ok(()),
     }
 }
 

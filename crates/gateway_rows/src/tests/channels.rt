@@ -17,8 +17,8 @@ pub const THREE_FILES: &str =
 
 /// Places and their repodata.json. `c`: these files. `conda-forge`: two subdirs. `l`: a
 /// name that depends on itself, on one that depends on it, and on one that no index lists. `t`: twins.
-/// `A` and `B`: two channels that list one name.
-pub const CHANNELS: [(&str, &str); 7] = [
+/// `A` and `B`: two channels that list one name. `w`: a record that depends on 71 names, in no order.
+pub const CHANNELS: [(&str, &str); 8] = [
     ("c/noarch", THREE_FILES),
     (
         "conda-forge/linux-64",
@@ -56,6 +56,16 @@ pub const CHANNELS: [(&str, &str); 7] = [
         "B/noarch",
         r#"{"packages.conda":{"x-2-0.conda":{"name":"x","version":"2.0","build":"0"},
 "y-1-0.conda":{"name":"y","version":"1.0","build":"0"}}}"#,
+    ),
+    (
+        "w/noarch",
+        r#"{"packages.conda":{"a-1-0.conda":{"name":"a","version":"1","build":"0","depends":[
+"z9","z8","z7","z6","z5","z4","z3","z2","z1","z0","y9","y8","y7","y6","y5","y4","y3","y2",
+"y1","y0","x9","x8","x7","x6","x5","x4","x3","x2","x1","x0","w9","w8","w7","w6","w5","w4",
+"w3","w2","w1","w0","B >=1","v9","v8","v7","v6","v5","v4","v3","v2","v1","v0","u9","u8","u7",
+"u6","u5","u4","u3","u2","u1","u0","t9","t8","t7","t6","t5","t4","t3","t2","t1","t0"]},
+"b-1-0.conda":{"name":"b","version":"1","build":"0","depends":["a"]},
+"z9-1-0.conda":{"name":"z9","version":"1","build":"0"}}}"#,
     ),
 ];
 

@@ -11,6 +11,8 @@ const L: &[&str] = &["--channels=l", "--subdirs=noarch"];
 
 const T: &[&str] = &["--channels=t", "--subdirs=noarch"];
 
+const W: &[&str] = &["--channels=w", "--subdirs=noarch"];
+
 const STRICT: &[&str] = &["--channels=A,B", "--subdirs=noarch", "--priority=strict"];
 
 const ALL: &[&str] = &["--channels=t", "--subdirs=noarch", "--format=all"];
@@ -18,7 +20,7 @@ const ALL: &[&str] = &["--channels=t", "--subdirs=noarch", "--format=all"];
 const FLAT: &[&str] = &["--flat", "--subdirs=noarch", "--channels=c"];
 
 // Options, an input, the status, and what is written.
-const RUNS: [(&[&str], &[u8], u8, &str); 31] = [
+const RUNS: [(&[&str], &[u8], u8, &str); 32] = [
     (
         C,
         b"a\n",
@@ -97,6 +99,14 @@ const RUNS: [(&[&str], &[u8], u8, &str); 31] = [
         b"a 3;a 2",
         OK,
         "request 1 ok 1\nc/noarch/a-2-0.conda 2 0 0\n",
+    ),
+    // Many names in one record.
+    (
+        W,
+        b"a",
+        OK,
+        "request 1 ok 3\nw/noarch/a-1-0.conda 1 0 0\nw/noarch/b-1-0.conda 1 0 0\n\
+         w/noarch/z9-1-0.conda 1 0 0\n",
     ),
     // Twins.
     (

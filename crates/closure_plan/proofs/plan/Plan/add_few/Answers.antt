@@ -4,7 +4,7 @@ use Rattle.conda_record.specs.View.{seen}
 use Rattle.closure_plan.specs.Given.{names_of_text, names_if}
 use Rattle.closure_plan.specs.Fresh.{Grows}
 use Rattle.closure_plan.proofs.FreshLemmas.{grows_both, some_stay, texts_more}
-use Rattle.closure_plan.proofs.plan.Plan.add_deps.Goals as goal
+use Rattle.closure_plan.proofs.plan.Plan.add_few.Goals as goal
 
 pub add_at-requires : goal.add_at-requires
 add_at-requires g c =
