@@ -17,3 +17,4 @@ pub mod SaysLemmas
 pub mod ChangeLemmas
 pub mod CallLemmas
 pub mod AnswerLemmas
+pub mod WorkedLemmas

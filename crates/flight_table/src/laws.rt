@@ -10,11 +10,14 @@ ghost use Rattle.flight_journal.specs.declared.entry.Entry.TheVariants.{Opened, 
 ghost use Rattle.flight_journal.specs.State.{Flies, IsKept};
 ghost use Rattle.flight_journal.specs.Journal.{after, Allowed, Legal};
 ghost use Rattle.flight_journal.specs.Count.{names, only_if, is_wreck};
+ghost use Rattle.flight_journal.specs.Worked.{two_landings, an_oversized_landing};
 ghost use Rattle.flight_rows.specs.Sight.{Sight, IsSightSound, hand_in};
 ghost use Rattle.flight_rows.specs.Serves.{Writes, HandsStay, HandMoves, IsLeaving};
 ghost use Rattle.flight_table.specs.Facts.{Facts, new_pass, left_pass, hit_pass, awaiting_pass, landed_pass, lost_pass, taken_pass, IsWithout};
 ghost use Rattle.flight_table.specs.Knows.{Knows};
 ghost use Rattle.flight_table.specs.Tells.{Tells, HoldsTheSame};
+ghost use Rattle.flight_table.specs.Follows.{Follows};
+ghost use Rattle.flight_table.specs.Worked.{an_owed_value, table_of, landed_three, awaits_one, took_it, forgot_it};
 
 /// Where what a pass says is so of a legal journal, it is so of the journal with an entry more, and of
 /// one with some entries more, that name another query, or none.
@@ -87,4 +90,15 @@ pub fn a_pass_that_parts_is_told()
         Allowed budget (after journal) (Taken p.query f) → IsWithout f p.awaits rest →
         Knows journal p → Knows (journal ++ Taken p.query f ∷ [])
         (taken_pass (only_if (is_wreck (slice_get (after journal).flights f)) (f ∷ [])) rest p) }
+{}
+
+/// What the passes of a worked table say is so of it, and so is what a call with one makes of it; a pass
+/// that forgot what it awaits is not told.
+pub fn a_worked_table_is_told()
+    ensures landed { Tells (table_of (two_landings ++ an_oversized_landing)) landed_three }
+    ensures awaits { Tells (table_of an_owed_value) awaits_one }
+    ensures took { Tells (table_of (two_landings ++ an_oversized_landing)) took_it }
+    ensures follows { Follows (table_of an_owed_value)
+        (table_of (two_landings ++ an_oversized_landing)) awaits_one took_it }
+    ensures forgot { ¬ Tells (table_of an_owed_value) forgot_it }
 {}

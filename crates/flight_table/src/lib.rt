@@ -19,8 +19,8 @@ mod token;
 pub use closing::Closing;
 pub use laws::{
     a_new_pass_is_told, a_pass_that_awaits_is_told, a_pass_that_hit_is_told,
-    a_pass_that_left_is_told, a_pass_that_parts_is_told, what_a_pass_says_stays,
-    what_a_pass_tells_stays,
+    a_pass_that_left_is_told, a_pass_that_parts_is_told, a_worked_table_is_told,
+    what_a_pass_says_stays, what_a_pass_tells_stays,
 };
 pub use table::Table;
 pub use token::{Door, Pass, Saying};
