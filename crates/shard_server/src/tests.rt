@@ -144,7 +144,10 @@ fn a_name_has_64_letters_at_most(rt: HostRuntime) -> Result<(), Fail> {
     let mut files = Vec::new(alloc);
     for count in [64, 65] {
         let name = index_of(alloc, count)?;
-        files.push((Text::copy(alloc, &name)?, b"index".as_slice().to_vec(alloc)?))?;
+        files.push((
+            Text::copy(alloc, &name)?,
+            b"index".as_slice().to_vec(alloc)?,
+        ))?;
     }
     let mut store = MemStore::new(alloc, files, Vec::new(alloc), None);
     let path = format!(in alloc; "/{}", index_of(alloc, 64)?)?;
