@@ -86,6 +86,23 @@ impl<R: Files<File = File> + Drop> Store for FolderStore<R> {
     }
 }
 
+// A file from this length on is a long one.
+const LONG_FILE_BYTES: u64 = 96 * 1024;
+
+// The least room of a long file: the C library keeps no block of this length for later.
+const LONG_ROOM_BYTES: u64 = 32 * 1024 * 1024 + 1;
+
+// How much room is made for so many bytes. That of a long file goes back to the system as soon as its
+// bytes are dropped, so that a server keeps no more than short files need; the room is not touched
+// where the file does not reach.
+fn room_for(bytes: u64) -> u64 {
+    if bytes < LONG_FILE_BYTES {
+        bytes
+    } else {
+        bytes.max(LONG_ROOM_BYTES)
+    }
+}
+
 // The bytes of a file; of one that is too long, no more than one byte behind the limit is read. What is
 // no plain file is not opened, since that can wait for another program. Room is made at once, for the file
 // and for a byte behind it, so that most files are there after one read, and their end after a second.
@@ -102,7 +119,10 @@ fn read<R: Files>(rt: &R, alloc: Global, name: &str, limit: u64) -> io::Result<G
         Err(error) => return Err(error),
     };
     let mut bytes = Vec::new(alloc);
-    bytes.reserve(size.min(limit).saturating_add(1) as usize)?;
+    let whole = size.min(limit).saturating_add(1);
+    if bytes.reserve(room_for(whole) as usize).is_err() {
+        bytes.reserve(whole as usize)?;
+    }
     file.take(limit.saturating_add(1)).read_to_end(&mut bytes)?;
     if bytes.len() as u64 > limit {
         return Ok(Got::Long);
