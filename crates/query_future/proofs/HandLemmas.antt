@@ -34,7 +34,7 @@ use Rattle.query_future.specs.Sections.{Closes, Ending, Gets, IsWhole}
 use Rattle.query_future.specs.Stands.{Answers, Fails, GoesOn, HasInHand, HasRequest, HoldsParcel, InHand, KeepsRequest, Rests, Stands, Tracked, is_going}
 use Rattle.query_future.specs.Windows.{AskedBy, CountedBy, IsAt, Paired, as_await}
 use Rattle.query_future.proofs.AmongLemmas.{front, nothing, removes_among}
-use Rattle.query_future.proofs.StandsLemmas.{here}
+use Rattle.query_future.proofs.StandsLemmas.{here, stands_counted}
 use Rattle.query_future.proofs.WindowLemmas.{asked_widens, await_of, key_awaited, widens_same}
 
 -- two pairs of one place are one
@@ -94,13 +94,17 @@ module _ {L : Type 0} where
       counted = h.counted;
       few = record { losses = s.losses ∙ h.few.losses; again = rw (s.wrecks, s.lost) h.few.again };
     })
-    ending_same work.Memory t u e h s a n = tt
+    ending_same work.Memory t u e h s a n = rw (a, n) (record { asks = ap length s.asks ∙ h.asks; again = rw (s.wrecks, s.lost) h.again })
 
     pub work_same : (w : Work L) (t : Tracked) (g : Facts) (c : ℕ) → Stands facts from w t → SameFacts t.pass g → g.awaits ≡ t.pass.awaits → Stands facts from w (record t { pass = g; cursor = c })
     work_same (work.Going p) t g c h s a = goes_same p t.pass g t.window t.asked t.again h s a
     work_same (work.Failing part m v) t g c h s a = ending_same (work.Failing part m v) t (record t { pass = g; cursor = c }) refl h s refl refl
     work_same (work.Answering x) t g c h s a = ending_same (work.Answering x) t (record t { pass = g; cursor = c }) refl h s refl refl
-    work_same work.Memory t g c h s a = tt
+    work_same work.Memory t g c h s a = ending_same work.Memory t (record t { pass = g; cursor = c }) refl h s refl refl
+
+    -- want of memory, with nothing in hand: the counts stand
+    pub rests_memory : (p : Planned (Verdict L) (Verdict L)) (t : Tracked) → Rests facts from (work.Going p) hand.Empty t → Rests facts from work.Memory hand.Empty t
+    rests_memory p t h = record { stands = stands_counted facts from (work.Going p) t h.stands; in_hand = h.in_hand; cursor_in = h.cursor_in; few = h.few }
 
     -- ---- taking
 
@@ -154,6 +158,19 @@ module _ {L : Type 0} where
         subst (λ z. Gets facts from w.flight z t.pass g) e
         (lands_gets p t.pass g t.window t.cursor w v h.paired j (subst (λ (z : Pair). HasValue (Arrives t.pass.base t.pass.origin) z.flight t.pass (size_of v) v) s m) y)
 
+    -- the flight in hand was lost, for want of memory
+    pub rests_lost : (p : Planned (Verdict L) (Verdict L)) (t : Tracked) (g : Facts) (x : ℕ) → Rests facts from (work.Going p) hand.Refused t → Parts x (λ rest. lost_pass rest t.pass) t.pass g → Rests facts from work.Memory hand.Empty (record t { pass = g })
+    rests_lost p t g x h y =
+        let e = stands_counted facts from (work.Going p) t h.stands in
+        let u : g.wrecks ≡ t.pass.wrecks = ap (λ (z : Facts). z.wrecks) y.is in
+        let k : g.lost ≡ t.pass.lost = ap (λ (z : Facts). z.lost) y.is in
+        record {
+          stands = record { asks = ap (λ (z : Facts). length z.asks) y.is ∙ e.asks; again = rw (u, k) e.again };
+          in_hand = ap (λ (z : Facts). z.hand) y.is;
+          cursor_in = h.cursor_in;
+          few = h.few;
+        }
+
     -- ---- closing
 
     nil_from_none : (ws : List Pair) → ((w : Pair) → Among w ws → ⊥) → ws ≡ []
@@ -184,10 +201,10 @@ module _ {L : Type 0} where
     stands_ended (work.Going p) (work.Going q) t u h c z e s a n = absurd e
     stands_ended (work.Going p) (work.Failing part m v) t u h c z e s a n = absurd e
     stands_ended (work.Going p) (work.Answering x) t u h c z e s a n = ending_same (work.Answering x) t u refl (stands_done p t x h c z e.0 e.1) s a n
-    stands_ended (work.Going p) work.Memory t u h c z e s a n = tt
+    stands_ended (work.Going p) work.Memory t u h c z e s a n = ending_same work.Memory t u refl (stands_counted facts from (work.Going p) t h) s a n
     stands_ended (work.Failing part m v) r t u h c z e s a n = subst (λ z. Stands facts from z u) (sym e) (ending_same (work.Failing part m v) t u refl h s a n)
     stands_ended (work.Answering x) r t u h c z e s a n = subst (λ z. Stands facts from z u) (sym e) (ending_same (work.Answering x) t u refl h s a n)
-    stands_ended work.Memory r t u h c z e s a n = subst (λ z. Stands facts from z u) (sym e) tt
+    stands_ended work.Memory r t u h c z e s a n = subst (λ z. Stands facts from z u) (sym e) (ending_same work.Memory t u refl h s a n)
 
     -- the pass closed
     pub rests_closed : (w r : Work L) (t : Tracked) (g : Facts) → Rests facts from w hand.Empty t → Closes w → IsWhole w → Ending w r → g ≡ left_pass t.pass → Rests facts from r hand.Empty (record t { pass = g })

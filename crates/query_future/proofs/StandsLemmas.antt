@@ -2,7 +2,7 @@
 use Rattle.std.specs.Prelude.{◌≡◌, ◌≢◌, ◌⊎◌, ◌+◌, ◌<◌, ◌≤◌, ℕ, suc, Bool, true, false, List, [], ◌∷◌, ◌++◌, map, take, drop, length, slice_get, slice_index_or, Option, Some, None, refl}
 use Rattle.std.specs.List.{remove}
 use Rattle.std.proofs.Common.{sym, ◌∙◌, ap, subst, inl, inr, arith, true≢false}
-use Rattle.std.proofs.lemmas.List.{append-nil, get_or_default, length_push}
+use Rattle.std.proofs.lemmas.List.{append-nil, get_or_default, length-map, length_push}
 use Rattle.std.proofs.lemmas.List.Edits.{length-remove}
 use Rattle.std.proofs.lemmas.Option.{none-some, same_Some}
 use Rattle.link_io.specs.Conn.{LinkFacts}
@@ -32,7 +32,7 @@ use Rattle.query_future.specs.declared.parts.Work.{Work}
 use Rattle.query_future.specs.declared.parts.Work.TheVariants as work
 use Rattle.query_future.specs.Sections.{Gets, IsNext, Sure, TakesIn, again_of}
 use Rattle.query_future.specs.Steps.{is_final}
-use Rattle.query_future.specs.Stands.{Fails, GoesOn, HasRequest, IsFew, KeepsRequest, Stands, Tracked}
+use Rattle.query_future.specs.Stands.{Fails, GoesOn, HasRequest, IsCounted, IsFew, KeepsRequest, Stands, Tracked}
 use Rattle.query_future.specs.Windows.{AskedBy, CountedBy, IsAt, IsOwn, Paired, need_of}
 use Rattle.query_future.proofs.AmongLemmas.{among_last, among_left, among_map, among_mid, among_more, front_or, once_behind, once_front, removes_among, split_here}
 use Rattle.query_future.proofs.WindowLemmas.{Widens, asked_push, asked_widens, await_of, key_awaited, marked_back, once_needs, paired_less, paired_push, paired_widens, widens_same}
@@ -91,6 +91,16 @@ module _ {L : Type 0} where
     abbrev Arrives : ℕ → Origin → ℕ → Target → Option ℕ → Verdict L → Type 0
     Arrives = Comes key_of size_of (number_of facts) (comes_from from)
 
+    -- the counts of a query, whatever it works on
+    pub counts_of_asked : (k : Known (Verdict L) (Verdict L)) (f : Facts) (asked : List Need) (again : ℕ) → AskedBy k f asked → again ≤ length f.wrecks + length f.lost → IsCounted f asked again
+    counts_of_asked k f asked again h n = record { asks = ap length h.keys ∙ length-map asked (key_at k); again = n }
+
+    pub stands_counted : (w : Work L) (t : Tracked) → Stands facts from w t → IsCounted t.pass t.asked t.again
+    stands_counted (work.Going p) t h = counts_of_asked p.known t.pass t.asked t.again h.asked_by h.few.again
+    stands_counted (work.Failing part m v) t h = counts_of_asked part t.pass t.asked t.again h.asked_by h.few.again
+    stands_counted (work.Answering a) t h = counts_of_asked a.known t.pass t.asked t.again h.asked_by h.few.again
+    stands_counted work.Memory t h = h
+
     -- a kept value was taken in
     pub stands_kept : (p : Planned (Verdict L) (Verdict L)) (f g : Facts) (ws : List Pair) (asked : List Need) (again c x : ℕ) (n : Need) (v : Verdict L) (w : Work L) (d : Did) → GoesOn facts from p f ws asked again → IsNext p n → Hits (Arrives f.base f.origin) x (key_at p.known n) v f g → TakesIn facts n v (record p { marked = p.marked ++ n ∷ [] }) w d → Stands facts from w (record { pass = g; window = ws; cursor = c; asked = asked ++ n ∷ []; again = again })
     stands_kept p f g ws asked again c x n v (work.Going q) d h i y t =
@@ -115,7 +125,14 @@ module _ {L : Type 0} where
         ]
     stands_kept p f g ws asked again c x n v (work.Failing part m o) d h i y t = absurd (none-some y.size (sym (ap size_of t.0.is) ∙ y.so.sized))
     stands_kept p f g ws asked again c x n v (work.Answering a) d h i y t = absurd t
-    stands_kept p f g ws asked again c x n v work.Memory d h i y t = tt
+    stands_kept p f g ws asked again c x n v work.Memory d h i y t =
+        let e = counts_of_asked p.known f asked again h.asked_by h.few.again in
+        let a : length f.asks ≡ length asked = e.asks in
+        let b : length g.asks ≡ length f.asks + 1 = ap (λ (o : Facts). length o.asks) y.is ∙ length_push f.asks (key_at p.known n) in
+        let l : length (asked ++ n ∷ []) ≡ length asked + 1 = length_push asked n in
+        let u : g.wrecks ≡ f.wrecks = ap (λ (o : Facts). o.wrecks) y.is in
+        let k : g.lost ≡ f.lost = ap (λ (o : Facts). o.lost) y.is in
+        record { asks = omega arith; again = rw (u, k) h.few.again }
 
     -- a flight is awaited from now on
     pub stands_awaits : (p : Planned (Verdict L) (Verdict L)) (f g : Facts) (ws : List Pair) (asked : List Need) (again x : ℕ) (n : Need) (t : Target) → GoesOn facts from p f ws asked again → IsNext p n → t ≡ target_of p.known n → IsPlain t → Awaits x t.key f g → GoesOn facts from (record p { marked = p.marked ++ n ∷ [] }) g (ws ++ record { need = n; flight = x; target = t } ∷ []) (asked ++ n ∷ []) again
@@ -212,7 +229,13 @@ module _ {L : Type 0} where
           few = record { losses = y.losses ∙ h.few.losses; again = omega arith };
         })
     stands_got p f g ws asked again c w v (work.Answering a) d h r i y t = absurd t
-    stands_got p f g ws asked again c w v work.Memory d h r i y t = tt
+    stands_got p f g ws asked again c w v work.Memory d h r i y t =
+        let e = counts_of_asked p.known f asked again h.asked_by h.few.again in
+        let b : again_of d again ≡ again = ap (λ s. again_of s again) t in
+        let few : length f.wrecks ≤ length g.wrecks = subst (λ s. length f.wrecks ≤ length s) (sym y.wrecks) (wreck_more w.flight (size_of v) f.wrecks) in
+        let lost : length g.lost ≡ length f.lost = ap length y.lost in
+        let was : again ≤ length f.wrecks + length f.lost = h.few.again in
+        record { asks = ap length y.asks ∙ e.asks; again = omega arith }
 
     -- the pair at the cursor was lost by another query
     pub stands_missed : (p q : Planned (Verdict L) (Verdict L)) (f g : Facts) (ws : List Pair) (asked : List Need) (again c : ℕ) (w : Pair) → GoesOn facts from p f ws asked again → IsAt ws c w → Parts w.flight (λ rest. missed_pass w.flight f) f g → q ≡ record p { marked = without w.need p.marked } → GoesOn facts from q g (remove ws c) asked (again + 1)

@@ -22,6 +22,7 @@ use Rattle.query_future.specs.declared.parts.Work.{Work}
 use Rattle.query_future.specs.declared.parts.Work.TheVariants as work
 use Rattle.query_future.specs.Sections.{AfterStep, SameTrack, Turned}
 use Rattle.query_future.specs.Steps.{Steps}
+use Rattle.query_future.proofs.StandsLemmas.{stands_counted}
 use Rattle.query_future.specs.Stands.{Carries, HasInHand, HasRequest, HoldsParcel, HoldsValue, KeepsRequest, Rests, Stands, Tracked, is_going}
 
 pub carries_same : (s : Sight) (p : Facts) → Carries s s p p
@@ -56,7 +57,7 @@ module _ {L : Type 0} where
     stands_at (work.Going p) t c s = s
     stands_at (work.Failing part m v) t c s = s
     stands_at (work.Answering a) t c s = s
-    stands_at work.Memory t c s = tt
+    stands_at work.Memory t c s = s
 
     -- the same query with nothing in hand and the cursor at another place of the window
     pub rests_begun : (w : Work L) (p : Planned (Verdict L) (Verdict L)) (h : Hand L) (t : Tracked) (c : ℕ) → Rests facts from w h t → h ≡ hand.Empty → w ≡ work.Going p → c ≤ length t.window → Rests facts from (work.Going p) hand.Empty (record t { cursor = c })
@@ -76,7 +77,7 @@ module _ {L : Type 0} where
     }
 
     stands_step : (w r : Work L) (d : Did) (t : Tracked) → AfterStep w d r → Stands facts from w t → Stands facts from r t
-    stands_step w r d t a s = elim a [ inl z ↦ subst (λ j. Stands facts from j t) (sym z.1) tt | inr z ↦ subst (λ j. Stands facts from j t) (sym z.1) s ]
+    stands_step w r d t a s = elim a [ inl z ↦ subst (λ j. Stands facts from j t) (sym z.1) (stands_counted facts from w t s) | inr z ↦ subst (λ j. Stands facts from j t) (sym z.1) s ]
 
     judged_holds : (t : Tracked) (p : Packed L) (v : Verdict L) → HoldsParcel facts from t p → IsLandedFrom facts from p v → HoldsValue facts from t v
     judged_holds t p v h j =

@@ -1,6 +1,7 @@
 pub mod Windows
 pub mod Dues
 pub mod Stands
+pub mod Left
 pub mod Queries
 pub mod Steps
 pub mod Sections

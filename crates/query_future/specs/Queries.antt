@@ -1,8 +1,11 @@
 -- A query, as contracts see it.
 use Rattle.std.specs.Prelude.{◌≡◌, ◌==◌, ◌&&◌, ℕ, Bool, true, false, List, length, Option, Some}
+use Rattle.std.specs.List.{sum}
 use Rattle.link_io.specs.Conn.{LinkFacts}
 use Rattle.link_io.specs.Origin.{Origin}
 use Rattle.closure_request.specs.Request.{Asking}
+use Rattle.closure_plan.specs.declared.need.Need.{Need}
+use Rattle.flight_table.specs.Facts.{Facts}
 use Rattle.flight_rows.specs.Sight.{Sight}
 use Rattle.query_future.specs.declared.parts.Did.{Did}
 use Rattle.query_future.specs.declared.parts.Due.{Due}
@@ -14,7 +17,8 @@ use Rattle.query_future.specs.declared.parts.Outcome.{Outcome}
 use Rattle.query_future.specs.declared.parts.Outcome.TheVariants as outcome
 use Rattle.query_future.specs.declared.parts.Work.{Work}
 use Rattle.query_future.specs.Dues.{counted, due_by}
-use Rattle.query_future.specs.Stands.{Answers, Carries, Fails, HasRequest, KeepsRequest, Rests, Tracked, is_going}
+use Rattle.query_future.specs.Left.{Left}
+use Rattle.query_future.specs.Stands.{Answers, Carries, Fails, HasRequest, IsCounted, KeepsRequest, Rests, Tracked, is_going}
 
 -- a query: its pass, window and asks, what it works on, what it has in hand, and how often it did what
 pub record Queried (L : Type 0) : Type 0 where
@@ -55,12 +59,12 @@ module _ {L : Type 0} (facts : L → LinkFacts) (from : L → Origin → Type 0)
     pub request : KeepsRequest old.work new.work
     pub counts : new.counts ≡ counted d old.counts
 
-  -- what an outcome says beside its pass and what was asked for
-  abbrev pub Stood : Outcome L → Tracked → Type 0
-  Stood (outcome.Ok a) t = Answers facts from a t.pass t.asked t.again
-  Stood (outcome.Refused spec kind) t = ⊥
-  Stood (outcome.Failed part m v) t = Fails facts from part m v.value t.pass t.asked t.again
-  Stood outcome.Memory t = Unit {0}
+  -- what an outcome says beside its pass, what was asked for, and how often it was asked again
+  abbrev pub Stood : Outcome L → Facts → List Need → ℕ → Type 0
+  Stood (outcome.Ok a) f asked again = Answers facts from a f asked again
+  Stood (outcome.Refused spec kind) f asked again = ⊥
+  Stood (outcome.Failed part m v) f asked again = Fails facts from part m v.value f asked again
+  Stood outcome.Memory f asked again = IsCounted f asked again
 
   -- what an ended query hands out
   pub record Finishes (q : Queried L) (f : Finished L) : Type 0 where
@@ -68,8 +72,14 @@ module _ {L : Type 0} (facts : L → LinkFacts) (from : L → Origin → Type 0)
     pub calls : f.calls ≡ q.track.pass.calls
     pub again : f.again ≡ q.track.again
     pub asked : f.asked.items ≡ q.track.asked
-    pub stood : Stood f.outcome q.track
+    pub stood : Stood f.outcome q.track.pass q.track.asked q.track.again
     pub request : (r : Asking) → HasRequest r q.work → HadRequest r f.outcome
+
+-- what is left of a query: its turns are all that it did
+pub record Leaves {L : Type 0} (q : Queried L) (u : Left) : Type 0 where
+  pub query : u.query ≡ q.track.pass.query
+  pub turns : u.turns ≡ sum q.counts
+  pub parcel : u.has_parcel ≡ is_in_hand q.hand
 
 -- whether a round of takes is over
 abbrev pub is_round_over : {L : Type 0} → Queried L → Bool

@@ -43,6 +43,11 @@ pub record IsFew (f : Facts) (times : ℕ) : Type 0 where
   pub losses : f.losses ≡ 0
   pub again : times ≤ length f.wrecks + length f.lost
 
+-- how often a query asked, and asked again, by what its pass says
+pub record IsCounted (f : Facts) (asked : List Need) (times : ℕ) : Type 0 where
+  pub asks : length f.asks ≡ length asked
+  pub again : times ≤ length f.wrecks + length f.lost
+
 -- whether the ending isn't decided
 abbrev pub is_going : {L : Type 0} → Work L → Bool
 is_going (work.Going p) = true
@@ -91,7 +96,7 @@ module _ {L : Type 0} (facts : L → LinkFacts) (from : L → Origin → Type 0)
   Stands (work.Going p) t = GoesOn p t.pass t.window t.asked t.again
   Stands (work.Failing part m v) t = Fails part m v.value t.pass t.asked t.again
   Stands (work.Answering a) t = Answers a t.pass t.asked t.again
-  Stands work.Memory t = Unit {0}
+  Stands work.Memory t = IsCounted t.pass t.asked t.again
 
   -- the flight in hand is that of the pair at the cursor
   pub record InHand (t : Tracked) : Type 0 where

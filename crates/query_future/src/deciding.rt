@@ -1,9 +1,10 @@
 //! What is due, and the counts.
 
 ghost use Rattle.std.specs.Prelude.{◌≡◌, length, false};
+ghost use Rattle.std.specs.List.{sum};
 ghost use Rattle.closure_request.specs.Request.{Asking};
 ghost use Rattle.query_future.specs.Dues.{counted, due_by, due_work};
-ghost use Rattle.query_future.specs.Queries.{HadRequest, Stood};
+ghost use Rattle.query_future.specs.Queries.{HadRequest, Stood, is_in_hand};
 ghost use Rattle.query_future.specs.Stands.{HasRequest, Stands, Tracked, is_going};
 
 use crate::parts::{Did, Due, Hand, Outcome, Work};
@@ -17,6 +18,24 @@ pub(crate) fn count(counts: &mut [u64; 11], did: Did)
 {
     let place = did.place();
     counts[place] = counts[place].saturating_add(1);
+}
+
+/// All that was done.
+pub(crate) fn turns_in(counts: &[u64; 11]) -> u128
+    ensures { result ≡ sum counts.now }
+{
+    let mut turns = 0;
+    for count in counts {
+        turns += u128::from(*count);
+    }
+    turns
+}
+
+/// Whether this is a parcel, or what became of one.
+pub(crate) fn is_held<L: Conn>(hand: &Hand<L>) -> bool
+    ensures { result ≡ is_in_hand hand.now }
+{
+    !matches!(hand, Hand::Empty)
 }
 
 /// The section that is due.
@@ -57,7 +76,8 @@ fn due_for<L: Conn>(work: &Work<L>, pairs: usize) -> Due
 /// The outcome of an ending.
 pub(crate) fn outcome_of<L: Conn>(work: Work<L>) -> Outcome<L>
     requires { is_going work ≡ false }
-    ensures stands { (t : Tracked) → Stands L.facts L.from work t → Stood L.facts L.from result t }
+    ensures stands { (t : Tracked) → Stands L.facts L.from work t →
+        Stood L.facts L.from result t.pass t.asked t.again }
     ensures request { (r : Asking) → HasRequest r work → HadRequest r result }
 {
     match work {

@@ -17,5 +17,5 @@ mod taking;
 mod track;
 mod turning;
 
-pub use parts::{Did, Due, Finished, Hand, Outcome, Pair, Work};
+pub use parts::{Did, Due, Finished, Hand, Outcome, Pair, Unended, Work};
 pub use query::Query;

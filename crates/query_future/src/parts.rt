@@ -7,6 +7,7 @@ use closure_plan::{Answer, Need, Part, Plan};
 use fetch_flight::Verdict;
 use link_io::{Conn, Parcel, Target};
 use query_needs::{LeafHold, PinHold};
+use std::marker::Model;
 use std::sync::Arc;
 
 /// A need that was asked for, the flight that brings its value, and the need's own target.
@@ -156,4 +157,43 @@ pub struct Finished<L: Conn> {
     pub asked: Vec<Need>,
     /// What it came to.
     pub outcome: Outcome<L>,
+}
+
+/// What a query had done that was given up while it ran. Contracts see a `Left`.
+#[derive(Debug, Drop)]
+pub struct Unended {
+    pub(crate) query: u64,
+    pub(crate) turns: u128,
+    pub(crate) has_parcel: bool,
+}
+
+impl Model for Unended {
+    ghost use Rattle.query_future.specs.Left.{Left};
+
+    ghost Value = { Left };
+
+    ghost view = { λ u. record { query = u.query; turns = u.turns; has_parcel = u.has_parcel } };
+}
+
+impl Unended {
+    /// The number of the query.
+    pub fn query(&self) -> u64
+        ensures { result ≡ self.now.query }
+    {
+        self.query
+    }
+
+    /// How many turns it did.
+    pub fn turns(&self) -> u128
+        ensures { result ≡ self.now.turns }
+    {
+        self.turns
+    }
+
+    /// Whether it had a parcel in hand, or what became of one.
+    pub fn has_parcel(&self) -> bool
+        ensures { result ≡ self.now.has_parcel }
+    {
+        self.has_parcel
+    }
 }

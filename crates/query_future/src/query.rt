@@ -1,7 +1,7 @@
 //! A query: its turns as sections on a table.
 
-use crate::deciding::{due_in, outcome_of};
-use crate::parts::{Did, Due, Finished, Hand, Pair, Work};
+use crate::deciding::{due_in, is_held, outcome_of, turns_in};
+use crate::parts::{Did, Due, Finished, Hand, Pair, Unended, Work};
 use crate::track::{MOST_OF_WINDOW, Track};
 use crate::turning::{
     Doing, ask_turn, close_turn, land_turn, lose_turn, put_turn, settle, step_turn, take_turn,
@@ -10,7 +10,7 @@ use closure_plan::Plan;
 use closure_request::Request;
 use fetch_flight::Verdict;
 use flight_table::{Door, Pass, Table};
-use link_io::Dial;
+use link_io::{Conn, Dial};
 use pass_book::Naming;
 use query_needs::{LeafHold, PinHold};
 use std::alloc::{AllocError, Global};
@@ -41,14 +41,14 @@ impl<N: Naming, D: Dial> Query<N, D> {
     ghost use Rattle.std.specs.Prelude.{◌≡◌, ◌≤◌, [], true, false, not, vec_capacity, IfOk, OnErr};
     ghost use Rattle.flight_rows.specs.Sight.{Sight};
     ghost use Rattle.closure_plan.specs.Start.{IsUntouched};
-    ghost use Rattle.flight_table.specs.Doors.{cancelling_door, opening_door};
+    ghost use Rattle.flight_table.specs.Doors.{TellsDoor, cancelling_door, opening_door};
     ghost use Rattle.flight_table.specs.Facts.{new_pass};
     ghost use Rattle.flight_table.specs.Follows.{Enters, LeavesTable};
     ghost use Rattle.query_needs.specs.Targets.{IsFormed};
     ghost use Rattle.query_future.specs.declared.parts.Due.{Due};
     ghost use Rattle.query_future.specs.declared.parts.Hand.TheVariants.{Empty};
     ghost use Rattle.query_future.specs.Dues.{no_counts};
-    ghost use Rattle.query_future.specs.Queries.{BeginsRound, Finishes, IsQuery, Turns, due_of, is_in_hand, is_round_over};
+    ghost use Rattle.query_future.specs.Queries.{BeginsRound, Finishes, IsQuery, Leaves, Turns, due_of, is_in_hand, is_round_over};
     ghost use Rattle.query_future.specs.Steps.{StepDid, SureFrom};
     ghost use Rattle.query_future.specs.Stands.{HasRequest};
 
@@ -63,15 +63,21 @@ impl<N: Naming, D: Dial> Query<N, D> {
     ) -> Result<Query<N, D>, AllocError>
         requires formed { IsFormed request }
         ensures enters { IfOk result (λ q. Enters table.old table.new q.track.pass) }
+        ensures pass { IfOk result (λ q. q.track.pass ≡ new_pass q.track.pass.query
+            q.track.pass.base q.track.pass.origin) }
+        ensures is_query { IfOk result (λ q. IsQuery D.Link.facts D.Link.from q) }
         ensures request { IfOk result (λ q. HasRequest request q.work) }
         ensures counts { IfOk result (λ q. q.counts ≡ no_counts) }
-        ensures door { IfOk result (λ _. door.new ≡ opening_door door.old) }
+        ensures door { IfOk result (λ _. (door.new ≡ opening_door door.old)
+            × TellsDoor table.old door.old × TellsDoor table.new door.new) }
         ensures err { OnErr result ((table.new ≡ table.old) × (door.new ≡ door.old)) }
     {
         let plan = Plan::new(alloc, request)?;
         let window = Vec::with_capacity(alloc, MOST_OF_WINDOW)?;
         let pass = table.enter(door)?;
-        Ok(Query::begun(alloc, pass, plan, window))
+        let query = Query::begun(alloc, pass, plan, window);
+        query.tell();
+        Ok(query)
     }
 
     // A query that has asked for nothing yet.
@@ -243,7 +249,7 @@ impl<N: Naming, D: Dial> Query<N, D> {
     pub fn has_parcel(&self) -> bool
         ensures { result ≡ is_in_hand self.now.hand }
     {
-        !matches!(self.doing.hand, Hand::Empty)
+        is_held(&self.doing.hand)
     }
 
     /// What the query came to, once it is over, with its closed pass.
@@ -276,16 +282,43 @@ impl<N: Naming, D: Dial> Query<N, D> {
         requires live { self.track.pass.live ≡ true }
         requires idle { is_in_hand self.hand ≡ false }
         ensures leaves { LeavesTable table.old table.new self.track.pass }
-        ensures door { door.new ≡ cancelling_door door.old }
+        ensures door { (door.new ≡ cancelling_door door.old)
+            × TellsDoor table.old door.old × TellsDoor table.new door.new }
     {
         let Query { track, .. } = self;
         let Track { pass, .. } = track;
         table.cancel(door, pass);
     }
+
+    /// The needs that it asked for and that are not given yet, each with the flight that brings its value.
+    pub fn window(&self) -> &[Pair]
+        ensures { result.now ≡ self.now.track.window }
+    {
+        &self.track.window
+    }
+
+    /// Gives up a query that runs, and leaves it open in its table for good: its pass, and what it did.
+    pub fn leave(self) -> (Pass<N>, Unended)
+        requires { self.track.pass.live ≡ true }
+        ensures pass { result.0 ≡ self.track.pass }
+        ensures left { Leaves self result.1 }
+    {
+        let Query {
+            track,
+            doing,
+            counts,
+        } = self;
+        let unended = Unended {
+            query: track.pass.query(),
+            turns: turns_in(&counts),
+            has_parcel: is_held(&doing.hand),
+        };
+        (track.pass, unended)
+    }
 }
 
 // What stands in the place of a work that is being done.
-fn spent<L: link_io::Conn>() -> Doing<L> {
+fn spent<L: Conn>() -> Doing<L> {
     Doing {
         work: Work::Memory,
         hand: Hand::Empty,

@@ -1,5 +1,5 @@
 use Rattle.std.proofs.Common.{◌≡◌, ap, sym, subst}
-use Rattle.query_future.proofs.HandLemmas.{ends_gets, misses_here, rests_flying}
+use Rattle.query_future.proofs.HandLemmas.{ends_gets, misses_here, rests_flying, rests_memory}
 use Rattle.query_future.proofs.driving.take_on.Goals as goal
 
 pub got-requires-clause-was : goal.got-requires-clause-was
@@ -23,3 +23,7 @@ missed-requires-clause-was g c = (
 pub returns-in-Parcel-clause-rests : goal.returns-in-Parcel-clause-rests
 returns-in-Parcel-clause-rests g c =
     rests_flying g.D.Link.Conn.facts g.D.Link.Conn.from c.args.plan (record { pass = c.args.track.now.pass; window = c.args.track.now.window.items; cursor = c.args.track.now.cursor; asked = c.args.track.now.asked.items; again = c.args.track.now.again }) c.take.new.pass c.index.result.now c.in-Parcel.parcel c.requires.rests (record { low = c.requires.below; is = c.index.ensures }) c.in-Parcel.ensures.says.0 c.in-Parcel.ensures.says.1
+
+pub returns-in-Memory-clause-rests : goal.returns-in-Memory-clause-rests
+returns-in-Memory-clause-rests g c =
+    rw c.in-Memory.ensures.says (rests_memory g.D.Link.Conn.facts g.D.Link.Conn.from c.args.plan (record { pass = c.args.track.now.pass; window = c.args.track.now.window.items; cursor = c.args.track.now.cursor; asked = c.args.track.now.asked.items; again = c.args.track.now.again }) c.requires.rests)
